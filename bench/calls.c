@@ -6,45 +6,12 @@
  * `level` and `match`, as bench/run writes them. They are made on one document, by the clock of the process, and then on
  * another one like it, with the replies that the program would write. On standard error stands how many nanoseconds of
  * processor time the first round took. */
-#define _POSIX_C_SOURCE 200809L
-#include "flat_fields.h"
-
-#include <time.h>
-
-#include "textmodel.h"
+#include "call_lines.h"
 
 enum { LINE_ROOM = 128 };
 
-typedef enum { EDIT, POSITION, OFFSET, LINE, LEVEL, MATCH } What;
-typedef struct { What what; Number first, second; Units text; } Call;
 /* What a call tells: numbers, or the units of a line. */
 typedef struct { uint64_t number; tm_place place; tm_partner partner; uint16_t units[LINE_ROOM]; } Told;
-
-static bool two(const char **at, const char *before, const char *between, Call *call) {
-    return word(at, before) && number(at, &call->first) && word(at, between) && number(at, &call->second);
-}
-
-static bool one(const char **at, const char *before, Call *call) { return word(at, before) && number(at, &call->first); }
-
-/* The fields of the named command. */
-static bool reads(const char **at, Call *call) {
-    static const char *const col = ",\"col\":";
-    if (word(at, "edit\",")) {
-        call->what = EDIT;
-        return two(at, "\"ops\":[{\"at\":[", ",", call) && word(at, "],\"text\":") && text(at, &call->text) && word(at, "}]");
-    }
-    if (word(at, "position\",")) return call->what = POSITION, one(at, "\"offset\":", call);
-    if (word(at, "offset\",")) return call->what = OFFSET, two(at, "\"line\":", col, call);
-    if (word(at, "line\",")) return call->what = LINE, one(at, "\"n\":", call);
-    if (word(at, "level\",")) return call->what = LEVEL, two(at, "\"line\":", col, call);
-    return word(at, "match\",") && (call->what = MATCH, two(at, "\"line\":", col, call));
-}
-
-static Call call_of(const char *line) {
-    Call call = {0};
-    if (!word(&line, "{\"cmd\":\"") || !reads(&line, &call) || !closes(&line)) fail("a line that is no call");
-    return call;
-}
 
 static uint32_t made(tm_session *session, const Call *call, Told *told) {
     switch (call->what) {
@@ -78,33 +45,6 @@ static void reply(tm_session *session, const Call *call, const Told *told, uint3
     case MATCH: printf("ok %lu %lu %lu\n", told->partner.line, told->partner.column, told->partner.length); break;
     default: printf("ok %lu\n", told->number);
     }
-}
-
-static tm_session opened(char **lines, size_t count) {
-    tm_session session = {0};
-    uint64_t length;
-    if (tm_make(&session) != TM_OK) fail("no memory");
-    for (size_t at = 0; at < count; at++)
-        if (tm_answer(&session, lines[at], strlen(lines[at]), &length) != TM_OK) fail("no answer");
-    return session;
-}
-
-static uint64_t nanoseconds(void) {
-    struct timespec now;
-    clock_gettime(CLOCK_PROCESS_CPUTIME_ID, &now);
-    return (uint64_t)now.tv_sec * 1000000000 + (uint64_t)now.tv_nsec;
-}
-
-/* All lines of standard input, without their feeds. */
-static char **read_lines(size_t *count) {
-    char **lines = NULL, *line = NULL;
-    size_t room = 0, bytes = 0;
-    for (ssize_t length; (length = getline(&line, &bytes, stdin)) > 0; line = NULL, bytes = 0) {
-        if (line[length - 1] == '\n') line[length - 1] = 0;
-        lines = grown(lines, *count, &room, sizeof *lines);
-        lines[(*count)++] = line;
-    }
-    return lines;
 }
 
 int main(int argc, char **argv) {

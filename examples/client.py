@@ -1,12 +1,12 @@
 #!/usr/bin/env -S python3 -B
 """A client to copy: starts the program, and edits a document as an editor would.
 
-examples/client.py [PROGRAM]     the one that ./build and .ci/run leave, where none is named; it may be ./textmodel, which runs
-                                 an unproved one too, as ./build --unproved makes it in a minute or two
+examples/client.py [PROGRAM]     by default the program of ./build or .ci/run; ./textmodel also runs an unproved one, which
+                                 ./build --unproved makes in a minute or two
 
-Each call is a line of JSON to the program and a line of it back. `Client` is all that another program needs. It is for one
-thread, and wants a system with `poll`. Offsets count UTF-16 units from 0, lines and columns count from 1, columns in units
-too, as docs/SCRIPT.md tells; `units` counts those of a Python string.
+Each call sends a line of JSON to the program and reads a line back. `Client` is all that another program needs. It is for one
+thread, and needs a system with `poll`. Offsets count UTF-16 units from 0. Lines and columns count from 1, columns in units
+too; see docs/SCRIPT.md. `units` counts the units of a Python string.
 """
 import functools
 import importlib

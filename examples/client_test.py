@@ -1,7 +1,7 @@
 #!/usr/bin/env -S python3 -B
-"""Tests the client: texts of any size and kind, many commands on their way at once, and how it tells what went wrong.
+"""Tests the client: texts of any size and kind, many commands sent at once, and its errors.
 
-examples/client_test.py [PROGRAM]     the one that ./build and .ci/run leave, where none is named
+examples/client_test.py [PROGRAM]     by default the program of ./build or .ci/run
 """
 import json
 import sys

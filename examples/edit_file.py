@@ -1,4 +1,4 @@
-"""Opens a file, puts a text at a line and a column, undoes and redoes that, and saves the file.
+"""Opens a file, inserts a text at a line and a column, undoes and redoes that, and saves the file.
 
 PYTHONPATH=python python3 examples/edit_file.py FILE LINE COLUMN TEXT
 

@@ -1,10 +1,10 @@
 #!/usr/bin/env -S python3 -B
-"""The core of an editor on the Python module: files in one session, with what an editor asks of their texts, and no terminal.
+"""The core of an editor on the Python module, without a terminal: files in one session, and the questions of an editor.
 
-examples/editor.py FILE ..     tells the brackets of files that stand alone, those in comments and strings aside
+examples/editor.py FILE ..     prints the unpaired brackets of files, except those in comments and strings
 examples/editor.py --test      10,000 random steps on three files; after each the screens are compared with the documents
 
-Places are a line and a column from 1. A column counts bytes of UTF-8, as compilers tell it.
+Positions are a line and a column from 1. A column counts bytes of UTF-8, as in compiler messages.
 """
 import codecs
 import re

@@ -1,8 +1,8 @@
 #!/usr/bin/env -S python3 -B
-"""Scripts with lines as long as they may be, and longer, with many decorations, and nested as deeply as may be.
+"""Scripts with lines of the greatest length, and longer, with many decorations, and with the deepest nesting.
 
-examples/large.py [PROGRAM]                  the one that ./build and .ci/run leave, where none is named
-examples/large.py --least-stack [PROGRAM]    tells how small a stack they can be answered on
+examples/large.py [PROGRAM]                  by default the program of ./build or .ci/run
+examples/large.py --least-stack [PROGRAM]    prints the smallest stack on which they are answered
 """
 import argparse
 import resource

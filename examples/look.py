@@ -1,10 +1,10 @@
 #!/usr/bin/env -S python3 -B
-"""Shows a file as the text model sees it, in a browser: brackets by their levels, decorations that follow what is typed, versions.
+"""Shows a file as the text model sees it, in a browser: brackets by their levels, decorations that move with the text, versions.
 
-examples/look.py FILE [--port N]     tells the address of the page; Ctrl-C ends it
+examples/look.py FILE [--port N]     prints the address of the page; Ctrl-C ends it
 
-The file is read once, with LF for each of its line endings, and never written. The page is served to programs of this machine only,
-on the loopback address, and nothing else is: a request for another path, or by a page or a name of elsewhere, is refused.
+The file is read once, its line endings converted to LF, and never written. Only this page is served, on the loopback address, to
+programs of this machine: requests for another path, or from another page or host name, are refused.
 """
 import argparse
 import json

@@ -1,8 +1,8 @@
 """The files that an editor has open, as a language server keeps them: documents of one session of the Python module.
 
-Places are those of the Language Server Protocol: lines and characters count from 0, characters in the encoding that was agreed
-on. A character behind its line's end means that end, a line behind the last one the end of the text, and a place inside a
-character the one in front of it. Lines end at LF, CR LF and CR, as they do in the module.
+Positions are those of the Language Server Protocol: lines and characters count from 0, characters in the agreed encoding. They are
+clamped: a character beyond its line to the end of the line, a line beyond the last to the end of the text, and a position inside a
+character to its start. Lines end with LF, CR LF and CR, as in the module.
 """
 import re
 import sys

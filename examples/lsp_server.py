@@ -1,8 +1,8 @@
 #!/usr/bin/env -S python3 -B
-"""A language server for brackets and words, over stdio: it shows the other bracket of a pair or where else a word stands, selects
-and folds by brackets, tells which stand alone, and renames a word in all open files. It counts `()`, `[]` and `{}`, but for those
-in comments and strings of the languages that it knows by their `languageId`. All files are documents of one session of
-python/textmodel.py in this process, and 64 can be open.
+"""A language server for brackets and words, over stdio: it shows the other bracket of a pair or other occurrences of a word, selects
+and folds by brackets, reports unpaired ones, and renames a word in all open files. Brackets are `()`, `[]` and `{}`, except in
+comments and strings of the languages that it knows by their `languageId`. All files are documents of one session of
+python/textmodel.py in this process; at most 64 can be open.
 
 neovim, in init.lua, and emacs with eglot, in init.el (for PATH put the folder of this repository):
 
@@ -18,15 +18,15 @@ neovim, in init.lua, and emacs with eglot, in init.el (for PATH put the folder o
           (unless (< column 0) (forward-char))))))
     (add-hook 'text-mode-hook 'eglot-ensure)
 
-Where a file's last line has no break, and where a buffer was emptied, neovim 0.7 tells a server wrongly of changes at the end of
-the text; `flags = {allow_incremental_sync = false}` beside `cmd` lets it tell the whole text.
+If a file's last line has no break, or a buffer was emptied, neovim 0.7 sends wrong changes at the end of the text;
+`flags = {allow_incremental_sync = false}` beside `cmd` makes it send the whole text.
 
-eglot 1.9 turns for ever, and emacs with it, where a diagnostic has a column inside a surrogate pair. None has that in its own
-text, and each is sent with the version of that; but eglot 1.9 does not look at versions, and puts diagnostics of an older text on
-the newer one that it has by then. The function above stops in front of such a pair, and a newer eglot does without it.
+eglot 1.9 loops forever, and emacs with it, if a diagnostic has a column inside a surrogate pair. None has one in its own text, and
+each is sent with the version of that text. But eglot 1.9 ignores versions, and shows diagnostics of an older text on a newer one.
+The function above stops before such a pair; a newer eglot does not need it.
 
-examples/lsp_server.py [--test]     with --test it answers `lodvark/text` too, with the text that it holds of a file, and
-                                    `lodvark/undo`, which undoes the last step of a file in the model alone
+examples/lsp_server.py [--test]     with --test it also answers `lodvark/text` with its text of a file, and `lodvark/undo`,
+                                    which undoes the last step of a file in the model only
 """
 import gc
 import json

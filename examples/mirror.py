@@ -1,10 +1,10 @@
 #!/usr/bin/env -S python3 -B
-"""A copy of a document that follows by events, of which some get lost, some come twice, and all come in any order.
+"""A copy of a document that follows it by events, some of them lost, some repeated, in any order.
 
-examples/mirror.py [PROGRAM]     the one that ./build and .ci/run leave, where none is named
+examples/mirror.py [PROGRAM]     by default the program of ./build or .ci/run
 
-`Copy` is what a second view would keep: it hands each event that reaches it to the program's mirror, waits where one before it
-is missing, and takes its lines from the mirror when that has gone on. It never reads the document itself.
+`Copy` is the state of a second view: it delivers each event that it gets to the program's mirror, waits if an earlier one is
+missing, and reads its lines from the mirror after each new version. It never reads the document itself.
 """
 import random
 import sys

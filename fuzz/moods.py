@@ -53,6 +53,7 @@ FAR = {name: 1 for name in WEIGHTS} | {"edit": 150, "undo": 4, "redo": 4, "decos
 FOLLOWED = more(edit=30, undo=12, redo=12, eol=4, mirror=1, send=40, deliver=50, mirrored=15)
 ASKED = more(brackets=12, match=10, level=25, undo=12, redo=8, stop=8, decorate=1, deco=1, decos=1)
 SOUGHT = more(find=30, replace=12, undo=12, redo=8, stop=6, eol=3, send=8, deliver=8, mirrored=3)
+CROWDED = more(edit=150, snapshot=4, read=6, close=3)  # small edits alone, so that pieces are written anew
 TORN = more(edit=60, find=50, replace=2, brackets=2, match=2, level=2)
 ENDED = more(eol=8, undo=15, redo=8, stop=8, version=6, decorate=25, deco=12, decos=12, position=12, value=8, open=3)
 
@@ -78,6 +79,7 @@ MOODS = {
     "followed": (5, Mood(30, FOLLOWED, [LETTERS, BREAKS, PAIRED], 1)),
     "swings": (1, Mood(60, more(undo=15, redo=15, stop=15, level=10, eol=5), [LETTERS, BREAKS, PAIRED], 3, run=60)),
     "pieces": (1, Mood(1500, more(edit=60, snapshot=15, read=30, close=12), [PAIRED, LETTERS, BREAKS], 1, ops=150)),
+    "crowded": (2, Mood(1500, CROWDED, [LETTERS, LETTERS, BREAKS], 1, ops=3)),
     "comments": (8, Mood(60, ASKED, [BREAKS, LETTERS], 8, hidden=1, curtains=0.5)),
     "curtains": (4, Mood(300, ASKED, [BREAKS, BREAKS, LETTERS], 6, hidden=1, strewn=0.2, curtains=0.6)),
     "covers": (3, Mood(200, ASKED, [BREAKS, LETTERS], 4, ragged=2, is_apart=True, hidden=1, strewn=0.3, curtains=0.6)),

@@ -1,68 +1,68 @@
 /**
  * A proved text model: documents with undo, decorations, brackets, search, snapshots and mirrors.
  *
- * An offset counts UTF-16 units from 0, as the index of a string does, and so does a length. A line and a character count from
- * 0, too, everywhere in this module. A place of a text is an offset from 0 up to its length, but not inside a pair of
- * surrogates, nor inside a CR LF where the document has CR LF line endings. A span from `start` up to `end` does not include
- * the unit at `end`. A string with lone surrogates is a text like any other.
+ * Offsets and lengths count UTF-16 units, as the index of a string does. Offsets, lines and characters count from 0. A valid
+ * offset is from 0 to the length of the text, not inside a surrogate pair, and not inside a CR LF if the document has CR LF line
+ * endings. A span from `start` up to `end` excludes the unit at `end`; in a valid one both are valid, and `start` is not above
+ * `end`. Lone surrogates are allowed.
  *
- * A call that throws has changed nothing. A word that is none, as of an encoding, or a value of another type is a TypeError.
+ * A call that throws has changed nothing. An unknown keyword, as for an encoding, or a value of a wrong type throws a TypeError.
  */
 
 /** Why a call was refused. */
 export type ErrorCode =
-  /** A decoration, document, snapshot, mirror or event is not there. */
+  /** There is no such decoration, document, snapshot, mirror or event. */
   | 'UNKNOWN'
-  /** An offset, position, line or span is none of the text, or another argument is out of range. */
+  /** An offset, position, line, span or other argument is out of range or invalid. */
   | 'RANGE'
   /** Two edits of a batch overlap. */
   | 'OVERLAP'
   /** A limit would be passed: of the library, or of the length of a string. */
   | 'LIMIT'
-  /** There is no memory for it. */
+  /** Out of memory. */
   | 'MEMORY'
-  /** The bytes are no UTF-8. */
+  /** The bytes are not valid UTF-8. */
   | 'ENCODING'
   /** The session is closed. */
   | 'EMPTY'
-  /** A step of several documents is not the next one of each of them: undo or redo the others first. */
+  /** A joint step is not the next one in each of its documents: undo or redo the other steps first. */
   | 'JOINT'
-  /** A mirror lacks events before this one. */
+  /** A mirror lacks earlier events. */
   | 'GAP';
 
-/** A call was refused, and has changed nothing. */
+/** A call was refused, and changed nothing. */
 export class TextModelError extends Error {
   constructor(code: ErrorCode, message: string, fields?: { index?: number; document?: number; have?: number; need?: number });
   readonly code: ErrorCode;
   /**
-   * Of `ENCODING`, the first byte at fault. Of a joint edit or a batch, the edit at fault, and of `decorate`, the id at fault
-   * in `remove` (`UNKNOWN`) or the decoration in `add` (`RANGE`), each by its place in the list.
+   * For `ENCODING`, the index of the first invalid byte. For a joint edit or a batch, the index of the invalid edit; for
+   * `decorate`, that of the invalid id in `remove` (`UNKNOWN`) or of the invalid decoration in `add` (`RANGE`).
    */
   readonly index?: number;
-  /** Of a joint edit, the document of the edit at fault. Of `JOINT`, a document whose last or next step is another one. */
+  /** For a joint edit, the document of the invalid edit. For `JOINT`, a document whose last or next step is another one. */
   readonly document?: number;
-  /** Of `GAP`, the version that the mirror has. */
+  /** For `GAP`, the version of the mirror. */
   readonly have?: number;
-  /** Of `GAP`, the version with which the event begins. */
+  /** For `GAP`, the version from which the event leads. */
   readonly need?: number;
 }
 
-/** The version of the library, as `1.0.0`. */
+/** The version of the library, such as `1.0.0`. */
 export const libraryVersion: string;
 
-/** A language whose comments and strings hide brackets. */
+/** A language in whose comments and strings brackets are ignored. */
 export type Language = 'c' | 'python' | 'rust' | 'javascript' | 'shell';
 
 /** The languages that `hiding` may name. */
 export const LANGUAGES: readonly Language[];
 
-/** What a character of a position counts: bytes of UTF-8, units of UTF-16, or code points. */
+/** The unit of the character of a position: bytes of UTF-8, UTF-16 units, or code points. */
 export type Encoding = 'utf-8' | 'utf-16' | 'utf-32';
 
-/** Line endings: each as it came, or all LF, or all CR LF, also in what is put in later. */
+/** Line endings: each as it came, or all LF, or all CR LF, in text inserted later too. */
 export type Ending = 'mixed' | 'lf' | 'crlf';
 
-/** What typed text makes a decoration grow: at both of its edges, at none, at its start, or at its end. */
+/** The ends of a decoration at which typed text makes it grow: both, neither, its start or its end. */
 export type Stick = 'both' | 'none' | 'start' | 'end';
 
 /** A line and a character, both from 0. */
@@ -83,10 +83,10 @@ export interface Span {
   end: number;
 }
 
-/** A text that takes the place of the units from `start` up to `end`. */
+/** A text that replaces the units from `start` up to `end`. */
 export interface Edit extends Span {
   text: string;
-  /** Moves decorations at the place to the end of the text, whatever sticks to them. */
+  /** Moves decorations at the span to the end of the new text, whatever their `stick`. */
   force?: boolean;
 }
 
@@ -96,47 +96,47 @@ export interface JointEdit extends Edit {
   document: number;
 }
 
-/** One of the edits of a change. Its span counts in the text that the edits before it had left. */
+/** An edit of the last change. Its span refers to the text after the edits before it. */
 export interface Change extends Span {
   text: string;
 }
 
 /**
- * What begins and ends comments and strings, in which brackets are text. What is left out is not there. Each text has at most
- * 32 units and no line break.
+ * The texts that begin and end comments and strings, in which brackets are ignored. If one is left out, there are no such
+ * comments or strings. Each text has at most 32 units and no line break.
  */
 export interface Marks {
-  /** Begins a comment up to the end of its line. */
+  /** The text that begins a comment up to the end of its line. */
   line?: string;
-  /** Begin and end a comment of several lines. */
+  /** The texts that begin and end a block comment. */
   block?: readonly [opening: string, closing: string];
-  /** Up to 8 units, each of which begins and ends strings. A string ends with its line at the latest. */
+  /** At most 8 units, each of which begins and ends strings. A string ends with its line at the latest. */
   quotes?: string;
 }
 
 export interface OpenOptions {
-  /** `mixed` where it is left out. */
+  /** `mixed` by default. */
   ending?: Ending;
-  /** Up to 64 pairs of an opening and a closing text, all different; `()`, `[]` and `{}` where they are left out. */
+  /** At most 64 pairs of an opening and a closing text, all different; `()`, `[]` and `{}` by default. */
   brackets?: Iterable<readonly [opening: string, closing: string]>;
-  /** What hides brackets: the marks of a language, or others. Nothing does where it is left out. */
+  /** The comments and strings: those of a language, or others. There are none by default. */
   hiding?: Language | Marks;
 }
 
 export interface FindOptions {
   text: string;
-  /** Tells the spans that begin here or behind; with `back`, those that end here or before. */
+  /** Returns the spans that start at or after this offset; with `back`, those that end at or before it. */
   from?: number;
-  /** Tells the last span first. */
+  /** Returns the last span first. */
   back?: boolean;
-  /** Tells at most so many; all where it is 0 or left out. */
+  /** Returns at most this many; all by default, or if it is 0. */
   most?: number;
 }
 
 export interface NewDecoration extends Span {
-  /** `both` where it is left out. */
+  /** `both` by default. */
   stick?: Stick;
-  /** It becomes empty where all of its text is replaced. */
+  /** Whether it becomes empty if an edit replaces all of its text. */
   collapse?: boolean;
 }
 
@@ -145,15 +145,15 @@ export interface Decoration extends Required<NewDecoration> {
   owner: number;
 }
 
-/** One of a pair; an opening bracket that none closes; or a closing one that closes none. */
+/** The opening or closing bracket of a pair; an opening one never closed; or a closing one without an opening one. */
 export type BracketState = 'opening' | 'closing' | 'unclosed' | 'unexpected';
 
 export interface Bracket extends Position {
-  /** How long it is, counted as characters are. */
+  /** Its length, in the unit of the character. */
   length: number;
-  /** The place of its pair among the pairs, from 0. */
+  /** The index of its pair, from 0. */
   kind: number;
-  /** How many brackets are open around it. */
+  /** The number of brackets open around it. */
   level: number;
   state: BracketState;
 }
@@ -175,128 +175,143 @@ export interface MirrorState {
   lineCount: number;
 }
 
-/** 64 documents, numbered from 0 to 63, all there from the start, and empty. Its memory is freed by `close`, or when it is collected. */
+/** 64 documents, numbered from 0 to 63, all empty at first. `close` or the garbage collector frees them. */
 export class Session {
   constructor();
-  /** The document of this number; the same object each time. `UNKNOWN` where there is none. */
+  /** Returns the document with this number; the same object each time. `UNKNOWN` if there is none. */
   document(number: number): Document;
   /**
-   * Makes several edits at once, in one document or in several, all or none. Edits of one document stand side by side, and their
-   * spans are those of its text before. In several documents it is a step that one undo takes back in all of them. `RANGE`,
-   * `UNKNOWN`, `OVERLAP`, each with `index` and `document`; `LIMIT`.
+   * Carries out edits in one or several documents, all or none. The edits of one document are adjacent, and their spans refer to
+   * its text before the call. Edits of several documents are one step, which one undo reverts in all of them. `RANGE`, `UNKNOWN`,
+   * `OVERLAP`, each with `index` and `document`; `LIMIT`.
    */
   joint(edits: Iterable<JointEdit>): void;
   readonly closed: boolean;
-  /** Frees all documents at once. A call on one of them throws `EMPTY` from then on. */
+  /** Frees all documents now. Later calls on them throw `EMPTY`. */
   close(): void;
 }
 
-/** A text with what an editor keeps of it: one by itself, or one of the documents of a session. */
+/** A text with its history, decorations and brackets: one of the documents of a session, or one in a session of its own. */
 export class Document {
-  /** A document by itself, in a session of its own. See `open`. */
+  /** Makes a document in a session of its own. See `open`. */
   constructor(text?: string | Uint8Array, options?: OpenOptions);
   /**
-   * Puts a new document in place of the old one, in version 1. Decorations, snapshots, history, mirror and events are gone. Bytes
-   * are UTF-8: `ENCODING` with the `index` of the first byte at fault. `RANGE` where brackets or marks are invalid; `LIMIT`.
+   * Replaces the document by a new one, in version 1. Decorations, snapshots, history, mirror and events are lost. Bytes are
+   * UTF-8: `ENCODING` with the `index` of the first invalid byte. `RANGE` if brackets or marks are invalid; `LIMIT`.
    */
   open(text?: string | Uint8Array, options?: OpenOptions): void;
   readonly session: Session;
   /** The number of the document in its session. */
   readonly number: number;
   readonly closed: boolean;
-  /** Frees a document by itself at once. One of a session is closed with that, and here an Error. */
+  /** Frees a document with a session of its own now. For a document of another session it throws an Error: close the session. */
   close(): void;
 
-  /** Puts the text in the place of the units from `start` up to `end`. `RANGE` where this is no span between two places; `LIMIT`. */
+  /** Replaces the units from `start` up to `end` by the text. `RANGE` if the span is invalid; `LIMIT`. */
   edit(start: number, end: number, text: string): void;
-  /** As `edit`, from one position up to another. */
+  /** Like `edit`, from one position up to another. */
   editAt(range: Range, text: string, encoding?: Encoding): void;
-  /** Makes several edits at once, all or none, with spans of the text before. `RANGE` and `OVERLAP` with `index`; `LIMIT`. */
+  /**
+   * Carries out several edits, all or none. Spans refer to the text before the call. `RANGE` and `OVERLAP` with `index`;
+   * `LIMIT`.
+   */
   batch(edits: Iterable<Edit>): void;
-  /** Replaces each span that `find` finds, as one step of undo; how many they are. `RANGE` where the sought text is empty; `LIMIT`. */
+  /** Replaces each span that `find` finds, as one undo step. Returns their number. `RANGE` if the sought text is empty; `LIMIT`. */
   replaceAll(sought: string, replacement: string): number;
 
-  /** Undoes the last step, in all of its documents; false where there is none. `JOINT` where it is not the last step of each. */
+  /** Undoes the last step, in all of its documents; false if there is none. `JOINT` if it is not the last step of each. */
   undo(): boolean;
-  /** Redoes the step that was undone last, in all of its documents; false where there is none. `JOINT` as `undo` has it. */
+  /**
+   * Redoes the step that was undone last, in all of its documents; false if there is none. `JOINT` if it is not the next step
+   * of each.
+   */
   redo(): boolean;
   readonly canUndo: boolean;
   readonly canRedo: boolean;
-  /** The next edit begins a new step of undo. Without it, edits that follow one another are one step. */
+  /** Makes the next edit begin a new undo step. Without it, consecutive edits are one step. */
   stop(): void;
   readonly ending: Ending;
-  /** Changes all line endings to this one, as a step of undo of its own; false where the document has it. `LIMIT`. */
+  /** Converts all line endings to this kind, as an undo step of its own; false if the document has it already. `LIMIT`. */
   setEnding(ending: Ending): boolean;
   /**
-   * What the last change did, be it an edit, an undo, a redo or other line endings: edits that lead, one after another, from the
-   * text before it to the text of now. None in version 1.
+   * Returns the edits of the last change, which is an edit, an undo, a redo or new line endings. Applied in order, they turn the
+   * text before it into the present one. Empty in version 1.
    */
   changes(): Change[];
 
-  /** How many units the text has. */
+  /** The length of the text in units. */
   readonly length: number;
-  /** How many lines the text has, 1 or more. */
+  /** The number of lines, at least 1. */
   readonly lineCount: number;
-  /** The version, from 1. Each change adds 1, also an undo. */
+  /** The version: 1 at first, and 1 more after each change, an undo too. */
   readonly version: number;
-  /** The version at which the text was last the same as now. */
+  /** An edit sets it to the version. An undo or redo restores that of the text that it restores. */
   readonly alternative: number;
-  /** The text. `LIMIT` where it is longer than a string may be. */
+  /** The text. `LIMIT` if it is longer than a string may be. */
   readonly value: string;
-  /** The units from `start` up to `end`, from the start and to the end where these are left out. `RANGE`; `LIMIT` as `value`. */
+  /** The text from `start`, by default 0, up to `end`, by default the end. `RANGE`; `LIMIT` as for `value`. */
   getText(start?: number, end?: number): string;
-  /** The line of this number, from 0, without its line ending. `RANGE` where there is none. */
+  /** The line with this number, from 0, without its line ending. `RANGE` if there is none. */
   line(number: number): string;
-  /** The position of an offset. `RANGE` where this is no place. */
+  /** The position of an offset. `RANGE` if the offset is invalid. */
   positionAt(offset: number, encoding?: Encoding): Position;
-  /** The offset of a position. `RANGE` where there is none: nothing is clamped. */
+  /** The offset of a position. `RANGE` if the position is invalid: it is not clamped. */
   offsetAt(position: Position, encoding?: Encoding): number;
-  /** The characters of a line at which a cursor may stop, but for its end: where grapheme clusters begin. `RANGE`. */
+  /** The characters of a line at which a cursor may stop, except its end: the starts of grapheme clusters. `RANGE`. */
   stops(line: number, encoding?: Encoding): number[];
-  /** The spans between two places at which a text stands; none overlaps the one before. `RANGE` where the text is empty. */
+  /** The valid spans at which the text occurs; none overlaps the one before. `RANGE` if the text is empty. */
   find(options: FindOptions): Span[];
 
   /**
-   * Removes decorations of an owner, a number from 0 on, and adds others, all or none; the ids of the new ones. `UNKNOWN` where
-   * one to be removed is not there, is of another owner, or is named twice; `RANGE` where a span is invalid; `LIMIT`.
+   * Removes decorations of an owner, a number from 0 on, and adds others, all or none. Returns the ids of the new ones. `UNKNOWN` if
+   * one to be removed is missing, has another owner, or is repeated; `RANGE` if a span is invalid; `LIMIT`.
    */
   decorate(owner: number, changes: { add?: Iterable<NewDecoration>; remove?: Iterable<number> }): number[];
-  /** The decoration of this id, if it is there. */
+  /** The decoration with this id, or undefined. */
   decoration(id: number): Decoration | undefined;
-  /** The decorations that overlap or touch a span, those of an owner or all. `RANGE` where this is no span of the text. */
+  /** The decorations that overlap or touch a span, those of an owner or all. `RANGE` if the span is invalid. */
   decorations(start: number, end: number, owner?: number): Decoration[];
 
-  /** The brackets of the lines from `first` to `last`, both included. `RANGE` where these are not there. */
+  /** The brackets of the lines from `first` to `last`, both included. `RANGE` if a line is missing. */
   brackets(first: number, last: number, encoding?: Encoding): Bracket[];
-  /** The partner of the bracket that starts at a position, if one does and has one. `RANGE` where the position is invalid. */
+  /**
+   * The bracket that matches the one at a position; undefined if no bracket starts there, or it has no match. `RANGE` if the
+   * position is invalid.
+   */
   match(position: Position, encoding?: Encoding): Partner | undefined;
-  /** How many brackets are open after those that start before a position. `RANGE` where the position is invalid. */
+  /** The number of brackets that are open after those that start before a position. `RANGE` if the position is invalid. */
   level(position: Position, encoding?: Encoding): number;
 
-  /** Keeps the text of now, to be read while the document changes. `LIMIT` where 1,000 are open. */
+  /** Keeps the present text, to be read while the document changes. `LIMIT` if 1,000 are open. */
   snapshot(): Snapshot;
 
-  /** Begins a mirror, a second text that follows the document by its events, with the text of now; its version. */
+  /** Starts a mirror with the present text: a second text that follows the document by its events. Returns its version. */
   mirror(): number;
-  /** What the mirror is, if there is one. */
+  /** The state of the mirror, or undefined. */
   readonly mirrorState: MirrorState | undefined;
-  /** Keeps the last change as an event; undefined in version 1. `LIMIT` where 65,536 were sent. */
+  /** Keeps the last change as an event; undefined in version 1. `LIMIT` if 65,536 were sent. */
   send(): Event | undefined;
-  /** Hands an event to the mirror; undefined where it is past that. `GAP` where it lacks events before; `UNKNOWN`. */
+  /**
+   * Delivers an event to the mirror. Returns its new state, or undefined if it is past that event. `GAP` if it lacks earlier
+   * ones; `UNKNOWN`.
+   */
   deliver(number: number): MirrorState | undefined;
-  /** A line of the mirror, from 0, without its line ending. `UNKNOWN` where there is no mirror; `RANGE`. */
+  /** A line of the mirror, from 0, without its line ending. `UNKNOWN` if there is no mirror; `RANGE`. */
   mirrored(line: number): string;
 }
 
 /**
- * The text that a document had, as an iterator of its parts. It is closed at its end, where a loop over it is left, by `close`, or
- * when it is collected. Read on after that, or after its document was opened anew, it throws `UNKNOWN`.
+ * The text that a document had, as an iterator of its parts. It is closed at its end, when a loop over it ends, by `close`, or by
+ * the garbage collector. A read after that, or after its document was opened anew, throws `UNKNOWN`.
  */
 export class Snapshot implements IterableIterator<string> {
   private constructor();
-  /** The next units, at most so many, or one fewer where a pair of surrogates would be cut. Empty at the end. `RANGE` below 2. */
+  /**
+   * The next units, at most `most`, one fewer if that would split a surrogate pair. Empty at the end. `RANGE` if `most` is
+   * below 2.
+   */
   read(most?: number): string;
-  /** Closes it; nothing is done where it is closed. */
+  /** Closes it. Does nothing if it is closed already. */
   close(): void;
   next(): IteratorResult<string, undefined>;
   return(): IteratorResult<string, undefined>;
@@ -306,29 +321,32 @@ export class Snapshot implements IterableIterator<string> {
 /** A change of a text document: of a range, or of all of it. */
 export type TextDocumentContentChangeEvent = { range: Range; rangeLength?: number; text: string } | { text: string };
 
-/** A text that takes the place of a range. */
+/** A text that replaces a range. */
 export interface TextEdit {
   range: Range;
   newText: string;
 }
 
 /**
- * A text document as language servers know it. Lines and characters count from 0, and characters count UTF-16 units. Positions and
- * offsets that are out of range are clamped: a character behind the end of its line is that end, before the line ending; a line
- * behind the last is the end of the text; what is below 0 is 0. A position may be inside a pair of surrogates. Lines end with LF,
- * CR LF or CR. The language chooses what hides brackets from `model`.
+ * A text document as language servers know it. Lines and characters count from 0; characters count UTF-16 units. Positions and
+ * offsets out of range are clamped: a character beyond its line to the end of the line, before the line ending; a line beyond the
+ * last to the end of the text; a number below 0 to 0. A position may be inside a surrogate pair. Lines end with LF, CR LF or CR.
+ * The language chooses the comments and strings of `model`.
  */
 export class TextDocument {
   private constructor();
-  /** A new document. Its memory is freed by `close`, or when it is collected. */
+  /** Makes a document. `close` or the garbage collector frees it. */
   static create(uri: string, languageId: string, version: number, content: string): TextDocument;
-  /** Makes the changes, one after another, each at a range of the text that those before it left; the document itself. */
+  /** Applies the changes in order. Each range refers to the text after the changes before it. Returns the document itself. */
   static update(document: TextDocument, changes: readonly TextDocumentContentChangeEvent[], version: number): TextDocument;
-  /** The text of the document after edits, which it does not make. Their ranges are those of its text; an Error where they overlap. */
+  /**
+   * Returns the text that the edits would give; the document is unchanged. Their ranges refer to its text. Throws an Error if
+   * they overlap.
+   */
   static applyEdits(document: TextDocument, edits: readonly TextEdit[]): string;
   readonly uri: string;
   readonly languageId: string;
-  /** The version that the client told. */
+  /** The version that the client sent. */
   readonly version: number;
   readonly lineCount: number;
   /** The document of the model, for brackets, undo and more. */
@@ -337,6 +355,6 @@ export class TextDocument {
   getText(range?: Range): string;
   positionAt(offset: number): Position;
   offsetAt(position: Position): number;
-  /** Frees the document at once. */
+  /** Frees the document now. */
   close(): void;
 }

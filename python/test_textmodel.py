@@ -158,7 +158,7 @@ class Opening(Case):
     def test_a_refused_one_leaves_the_old(self):
         document = self.document("a")
         document.edit(1, 1, "b")
-        self.no_range("open: the brackets or what hides them are invalid", document.open, "c", brackets=["aa"])
+        self.no_range("open: the brackets or the hiding are invalid", document.open, "c", brackets=["aa"])
         self.assertEqual((document.text, document.version), ("ab", 2))
 
     def test_languages(self):
@@ -178,7 +178,7 @@ class Opening(Case):
             self.assertEqual([*document.bracket_rows(1, document.line_count, encoding)], [tuple(it) for it in found])
             self.assertEqual(len(found), 6000 * 5 + 2)
         self.assertEqual([*document.bracket_rows(12001, 12001)], [(12001, 1, 1, 0, 0, 2), (12001, 2, 1, 0, 1, 2)])
-        self.no_range("brackets: line 12002 is not there: the text has 12001", document.bracket_rows, 1, 12002)
+        self.no_range("brackets: there is no line 12002: the text has 12001", document.bracket_rows, 1, 12002)
 
     def test_hiding(self):
         hiding = Hiding(line="--", block=("{-", "-}"), quotes='"')
@@ -194,17 +194,17 @@ class Opening(Case):
             Hiding(quotes="123456789"), Hiding(quotes='"\'"'), Hiding(quotes="\\"), Hiding(quotes=SMILE), Hiding(quotes="\n"),
             Hiding(quotes="\ud800"),
         ]:  # fmt: skip
-            self.no_range("open: the brackets or what hides them are invalid", Document, "a", hiding=hiding)
-            self.no_range("open: the brackets or what hides them are invalid", Document, b"a", hiding=hiding)
+            self.no_range("open: the brackets or the hiding are invalid", Document, "a", hiding=hiding)
+            self.no_range("open: the brackets or the hiding are invalid", Document, b"a", hiding=hiding)
 
     def test_brackets_of_its_own(self):
         document = self.document("begin ab end", brackets=[("begin", "end"), ("<", ">")])
         self.assertEqual(document.match(1, 10), (1, 1, 5))
         self.assertEqual(self.document("()", brackets=(pair for pair in ["()"])).match(1, 1), (1, 2, 1))
-        self.no_range("there are no brackets", Document, "", brackets=[])
+        self.no_range("the list of brackets is empty", Document, "", brackets=[])
         many = [(chr(2 * n), chr(2 * n + 1)) for n in range(100, 165)]
         for brackets in ["(("], [("", ")")], [("a\n", "b")], [("x" * 33, "y")], many:
-            self.no_range("open: the brackets or what hides them are invalid", Document, "", brackets=brackets)
+            self.no_range("open: the brackets or the hiding are invalid", Document, "", brackets=brackets)
         self.assertEqual(len(self.document("", brackets=many[1:])), 0)
         self.refuses(EncodingError, "byte 0", Document, b"\xff", brackets=["(("])
 
@@ -232,10 +232,10 @@ class Sessions(Case):
 
     def test_errors_tell_the_document(self):
         document = self.session("", "ab")[1]
-        self.at_fault(1, None, RangeError, "edit in document 1: offset 3 is behind the end of the text, 2", document.edit, 0, 3, "")
+        self.at_fault(1, None, RangeError, "edit in document 1: offset 3 is beyond the end of the text, 2", document.edit, 0, 3, "")
         self.at_fault(1, 1, RangeError, "batch in document 1: edit 1: offset 9", document.batch, [(0, 0, ""), (0, 9, "")])
         self.at_fault(1, 1, RangeError, "batch in document 1: edit 1: offset -1", document.batch, [(0, 0, ""), (0, -1, "")])
-        self.at_fault(1, None, RangeError, "batch in document 1: there is no edit", document.batch, [])
+        self.at_fault(1, None, RangeError, "batch in document 1: there are no edits", document.batch, [])
         self.at_fault(1, None, UnknownError, "decoration in document 1", document.decoration, 1)
         self.at_fault(1, None, RangeError, "position in document 1", document.position, 3)
         self.at_fault(1, None, RangeError, "snapshot 1 in document 1", document.snapshot().read, 1)
@@ -250,7 +250,7 @@ class Sessions(Case):
         self.assertTrue(session[2].redo())
         session[0].edit(0, 0, "x")
         self.at_fault(0, None, JointError, "undo in document 1", session[1].undo)
-        self.assertIsInstance(self.refuses(JointError, "document 0 has another one", session[2].undo), ValueError)
+        self.assertIsInstance(self.refuses(JointError, "document 0 has another step", session[2].undo), ValueError)
         self.assertTrue(session[0].undo() and session[1].undo())
         self.assertEqual(session[2].text, "# old")
         session[0].edit(0, 0, "y")
@@ -274,19 +274,19 @@ class Sessions(Case):
         self.assertTrue(session[1].undo())
         self.assertEqual(session[1].text, "cd")
         self.at_fault(1, 1, OverlapError, "joint edit in document 1: edit 1", session.joint, {1: [(0, 2, ""), (1, 2, "")]})
-        self.at_fault(0, None, RangeError, "there is no edit", session.joint, {0: []})
+        self.at_fault(0, None, RangeError, "there are no edits", session.joint, {0: []})
 
     def test_no_joint(self):
         session = self.session("ab" + SMILE, "cd")
         one = [(0, 0, "x")]
-        self.at_fault(None, None, RangeError, "joint edit: there is no edit", session.joint, {})
+        self.at_fault(None, None, RangeError, "joint edit: there are no edits", session.joint, {})
         self.refuses(UnknownError, "no document 64", session.joint, {0: one, 64: one})
         for document, index, error, said, edits in [
-            (1, 1, RangeError, "edit 1: offset 3 is behind", {0: one, 1: [*one, (2, 3, "")]}),
-            (0, 0, RangeError, "edit 0: offset 3 stands inside a character", {0: [(3, 3, "")], 1: one}),
-            (1, 0, RangeError, "edit 0: its start, 2, is behind", {0: one, 1: [(2, 1, "")]}),
+            (1, 1, RangeError, "edit 1: offset 3 is beyond", {0: one, 1: [*one, (2, 3, "")]}),
+            (0, 0, RangeError, "edit 0: offset 3 is inside a character", {0: [(3, 3, "")], 1: one}),
+            (1, 0, RangeError, "edit 0: its start, 2, is after", {0: one, 1: [(2, 1, "")]}),
             (1, 0, RangeError, "edit 0: offset -1 is below 0", {0: one, 1: [(-1, 1, "")]}),
-            (0, 2, OverlapError, "edit 2: it overlaps one before it", {1: one, 0: [(1, 2, ""), *one, (0, 2, "")]}),
+            (0, 2, OverlapError, "edit 2: it overlaps an earlier one", {1: one, 0: [(1, 2, ""), *one, (0, 2, "")]}),
         ]:  # fmt: skip
             self.at_fault(document, index, error, f"joint edit in document {document}: {said}", session.joint, edits)
         self.assertEqual((session[0].text, session[1].text, session[0].version), ("ab" + SMILE, "cd", 1))
@@ -430,9 +430,9 @@ class Edits(Case):
 
     def test_no_span(self):
         document = self.document("ab" + SMILE)
-        behind, inside = "is behind the end of the text, 4", "offset 3 stands inside a character"
+        behind, inside = "is beyond the end of the text, 4", "offset 3 is inside a character"
         for said, start, end in [
-            ("its start, 1, is behind its end, 0", 1, 0), (f"offset 5 {behind}", 0, 5), (f"offset 5 {behind}", 5, 5),
+            ("its start, 1, is after its end, 0", 1, 0), (f"offset 5 {behind}", 0, 5), (f"offset 5 {behind}", 5, 5),
             (inside, 3, 3), (inside, 0, 3), (f"offset {FAR} {behind}", FAR, FAR), ("start -1 is below 0", -1, 0),
             (f"end {2**64} is above", 0, 2**64),
         ]:  # fmt: skip
@@ -440,17 +440,17 @@ class Edits(Case):
         self.assertEqual((document.text, document.version), ("ab" + SMILE, 1))
         self.assertRaises(TypeError, document.edit, 0.0, 1, "")
         self.assertRaises(TypeError, document.edit, 0, 1, b"")
-        self.no_range("offset 1 stands between a CR and its LF", self.document("\r\n", ending="crlf").edit, 1, 1, "")
+        self.no_range("offset 1 is between a CR and its LF", self.document("\r\n", ending="crlf").edit, 1, 1, "")
 
     def test_edit_at(self):
         document = self.document("a\r\nb")
         document.edit_at((1, 2), Position(2, 1), "-")
         self.assertEqual(document.text, "a-b")
         for said, start, end in [
-            ("its start, (1, 3), is behind its end, (1, 2)", (1, 3), (1, 2)),
-            ("line 2 is not there: the text has 1", (2, 1), (2, 1)),
+            ("its start, (1, 3), is after its end, (1, 2)", (1, 3), (1, 2)),
+            ("there is no line 2: the text has 1", (2, 1), (2, 1)),
             ("lines count from 1", (0, 1), (1, 1)), ("columns count from 1", (1, 0), (1, 1)),
-            ("column 5 is behind the end of line 1, column 4", (1, 1), (1, 5)), ("line -1 is below 0", (-1, 1), (1, 1)),
+            ("column 5 is beyond the end of line 1, column 4", (1, 1), (1, 5)), ("line -1 is below 0", (-1, 1), (1, 1)),
         ]:  # fmt: skip
             self.no_range(said, document.edit_at, start, end, "x")
         self.assertEqual(document.text, "a-b")
@@ -460,7 +460,7 @@ class Edits(Case):
             document = self.document(f"é{SMILE}x")
             document.edit_at((1, column), (1, column), "|", encoding)
             self.assertEqual(document.text, f"é{SMILE}|x")
-        inside = "column 4 of line 1 stands inside a character, in bytes of UTF-8"
+        inside = "column 4 of line 1 is inside a character, in bytes of UTF-8"
         self.no_range(inside, document.edit_at, (1, 4), (1, 4), "", "utf-8")
         self.no_range("line 1, column 5 in code points", document.edit_at, (1, 1), (1, 6), "", "utf-32")
         self.assertRaises(ValueError, document.edit_at, (1, 1), (1, 1), "", "latin-1")
@@ -475,8 +475,8 @@ class Edits(Case):
         document[2:1] = "|"
         self.assertEqual(document.text, "aX|de!")
         document[:] = SMILE
-        self.no_range("offset 1 stands inside a character", document.__getitem__, slice(0, 1))
-        self.no_range("offset 1 stands inside a character", document.__setitem__, slice(1, 2), "")
+        self.no_range("offset 1 is inside a character", document.__getitem__, slice(0, 1))
+        self.no_range("offset 1 is inside a character", document.__setitem__, slice(1, 2), "")
         self.assertRaises(TypeError, lambda: document[0])
         self.assertRaises(ValueError, lambda: document[::2])
         self.assertRaises(TypeError, iter, document)
@@ -486,11 +486,11 @@ class Edits(Case):
         document.batch([(4, 5, "Y"), Edit(1, 2, "XX"), (0, 0, SMILE), (0, 0, "")])
         self.assertEqual((document.text, document.version), (SMILE + "aXXcdYf", 2))
         overlap = [(2, 5, ""), (5, 6, ""), (4, 5, "z"), (4, 5, "")]
-        self.at_fault(0, 2, OverlapError, "batch: edit 2: it overlaps one before it", document.batch, overlap)
+        self.at_fault(0, 2, OverlapError, "batch: edit 2: it overlaps an earlier one", document.batch, overlap)
         self.assertIsInstance(self.refuses(OverlapError, "edit 1", document.batch, [(4, 6, ""), (2, 5, "")]), ValueError)
-        self.at_fault(0, 1, RangeError, "batch: edit 1: offset 1 stands inside", document.batch, [(2, 2, ""), (1, 1, "z")])
+        self.at_fault(0, 1, RangeError, "batch: edit 1: offset 1 is inside", document.batch, [(2, 2, ""), (1, 1, "z")])
         self.at_fault(0, 0, RangeError, "batch: edit 0: offset -1 is below 0", document.batch, [(-1, 2, "")])
-        self.no_range("batch: there is no edit", document.batch, [])
+        self.no_range("batch: there are no edits", document.batch, [])
         self.assertEqual((document.text, document.version), (SMILE + "aXXcdYf", 2))
 
     def test_force(self):
@@ -575,7 +575,7 @@ class Steps(Case):
         self.assertFalse(document.set_ending("crlf"))
         self.assertTrue(document.set_ending(None))
         self.assertEqual((document.ending, document.position(2)), (None, (1, 3)))
-        self.no_range("column 3 is behind the end of line 1", document.offset, 1, 3)
+        self.no_range("column 3 is beyond the end of line 1", document.offset, 1, 3)
         self.assertTrue(document.undo() and document.undo() and document.undo())
         self.assertEqual((document.text, document.ending), ("a\nb\nc", "lf"))
         self.assertRaises(ValueError, document.set_ending, "cr")
@@ -586,7 +586,7 @@ class Places(Case):
         document = self.document("ab\r\n" + SMILE)
         self.assertEqual([document.position(n) for n in (0, 2, 3, 4, 6)], [(1, 1), (1, 3), (1, 4), (2, 1), (2, 3)])
         self.assertIsInstance(document.position(0), Position)
-        self.no_range("position: offset 5 stands inside a character", document.position, 5)
+        self.no_range("position: offset 5 is inside a character", document.position, 5)
         for offset in (7, FAR, *NO_NUMBERS):
             self.no_range(f"offset {offset} ", document.position, offset)
         self.assertRaises(ValueError, document.position, 0, "utf-7")
@@ -595,10 +595,10 @@ class Places(Case):
         document = self.document("ab\r\n" + SMILE)
         self.assertEqual([document.offset(*at) for at in [(1, 1), (1, 3), (2, 1), (2, 3)]], [0, 2, 4, 6])
         for said, line, column in [
-            ("column 4 is behind the end of line 1", 1, 4), ("column 2 of line 2 stands inside a character", 2, 2),
-            ("column 4 is behind", 2, 4),
-            ("line 3 is not there: the text has 2", 3, 1), ("lines count from 1", 0, 1), ("columns count from 1", 1, 0),
-            (f"line {FAR} is not there", FAR, FAR), ("line -1 is below 0", -1, 1), (f"column {2**64} is above", 1, 2**64),
+            ("column 4 is beyond the end of line 1", 1, 4), ("column 2 of line 2 is inside a character", 2, 2),
+            ("column 4 is beyond", 2, 4),
+            ("there is no line 3: the text has 2", 3, 1), ("lines count from 1", 0, 1), ("columns count from 1", 1, 0),
+            (f"there is no line {FAR}", FAR, FAR), ("line -1 is below 0", -1, 1), (f"column {2**64} is above", 1, 2**64),
         ]:  # fmt: skip
             self.no_range(said, document.offset, line, column)
         self.assertRaises(ValueError, document.offset, 1, 1, "utf-7")
@@ -617,7 +617,7 @@ class Places(Case):
                         self.assertEqual(document.offset(n, count + 1, encoding), start + units(front))
         between = self.document("é\r\nx")
         self.assertEqual([between.position(2, encoding).column for encoding in ENCODINGS], [4, 3, 3])
-        inside = "column 2 of line 1 stands inside a character, in bytes of UTF-8"
+        inside = "column 2 of line 1 is inside a character, in bytes of UTF-8"
         self.no_range(inside, self.document("é").offset, 1, 2, "utf-8")
 
     def test_values(self):
@@ -636,7 +636,7 @@ class Places(Case):
             self.no_range("line", document.line, n)
             self.no_range("line", document.line_utf8, n)
         self.no_range("lines count from 1", list, document.lines(0))
-        self.no_range("line 5 is not there", list, document.lines(4, 5))
+        self.no_range("there is no line 5", list, document.lines(4, 5))
 
     def test_reading(self):
         text = ("ab" + SMILE) * 30_000
@@ -644,9 +644,9 @@ class Places(Case):
         self.assertEqual((document.read(0, 3), document.read(2, 5), document.read(len(document))), ("ab", SMILE + "ab", ""))
         parts = list(document.parts())
         self.assertEqual(("".join(parts), len(parts) > 1), (text, True))
-        self.no_range("offset 3 stands inside a character", document.read, 3)
-        self.no_range("at most 1 units are wanted", document.read, 0, 1)
-        self.no_range("is behind the end of the text", document.read, 10**9)
+        self.no_range("offset 3 is inside a character", document.read, 3)
+        self.no_range("`most` is 1, and must be at least 2", document.read, 0, 1)
+        self.no_range("is beyond the end of the text", document.read, 10**9)
         self.assertEqual(self.document("a\r\nb", ending="crlf").read(0, 2), "a")
         self.assertEqual(self.document("").read(0, 2), "")
 
@@ -665,7 +665,7 @@ class Places(Case):
         self.assertEqual(document.find(SMILE), [(3, 5)])
         self.assertEqual(document.find("\ud83d"), [])
         self.assertEqual(self.document("a" * 1000).find("a")[-1], (999, 1000))
-        self.no_range("find: there is no text to look for", document.find, "")
+        self.no_range("find: the sought text is empty", document.find, "")
 
     def test_find_from_a_place(self):
         document = self.document("aaaaa")
@@ -687,7 +687,7 @@ class Places(Case):
         self.assertEqual((document.text, document.version), (3 * SMILE + "b", 3))
         self.assertTrue(document.undo())
         self.assertEqual(document.text, "aaab")
-        self.no_range("replace: there is no text to look for", document.replace_all, "", "x")
+        self.no_range("replace: the sought text is empty", document.replace_all, "", "x")
 
     def test_units(self):
         self.assertEqual((units(""), units("ab"), units(SMILE), units("\ud800")), (0, 2, 2, 1))
@@ -710,7 +710,7 @@ class Decorations(Case):
         self.text.decorate(1, [(1, 3)])
         self.text.edit(0, 2, SMILE)
         self.assertEqual(self.text.decoration(1).span, (1, 3))
-        self.no_range("offset 1 stands inside a character", self.text.value, *self.text.decoration(1).span)
+        self.no_range("offset 1 is inside a character", self.text.value, *self.text.decoration(1).span)
 
     def test_sticks(self):
         self.text.decorate(1, [(2, 4, stick) for stick in Stick])
@@ -737,7 +737,7 @@ class Decorations(Case):
     def test_removal(self):
         self.text.decorate(1, [(0, 1), (1, 2)])
         self.assertEqual(self.text.decorate(1, remove=[1]), range(3, 3))
-        self.refuses(UnknownError, "there is none of id 1", self.text.decoration, 1)
+        self.refuses(UnknownError, "there is none with id 1", self.text.decoration, 1)
         for index, owner, gone in [(0, 1, [1]), (1, 1, [2, 1]), (0, 2, [2]), (1, 1, [2, 2])]:
             said = f"decorate: decoration {gone[index]} cannot be removed"
             self.at_fault(0, index, UnknownError, said, self.text.decorate, owner, [(9, 9)], gone)
@@ -751,7 +751,7 @@ class Decorations(Case):
 
     def test_no_spans(self):
         for said, new in [
-            ("its start, 1, is behind", (1, 0)), ("offset 9 is behind", (0, 9)), ("there is no stick 4", (0, 1, 4)),
+            ("its start, 1, is after", (1, 0)), ("offset 9 is beyond", (0, 9)), ("there is no stick 4", (0, 1, 4)),
         ]:  # fmt: skip
             self.at_fault(0, 1, RangeError, f"new decoration 1: {said}", self.text.decorate, 1, [(0, 1), new, new])
         self.no_range("offset -1 is below 0", self.text.decorate, 1, [(-1, 0)])
@@ -775,8 +775,8 @@ class Brackets(Case):
         self.assertEqual([it.state for it in document.brackets(2, 2)], [BracketState.UNEXPECTED])
         self.assertEqual(len(document.brackets(1, 2)), 4)
         for said, first, last in [
-            ("lines count from 1", 0, 1), ("its first line, 2, is behind its last, 1", 2, 1),
-            ("line 3 is not there", 1, 3), ("first -1", -1, 1),
+            ("lines count from 1", 0, 1), ("its first line, 2, is after its last, 1", 2, 1),
+            ("there is no line 3", 1, 3), ("first -1", -1, 1),
         ]:  # fmt: skip
             self.no_range(said, document.brackets, first, last)
 
@@ -788,7 +788,7 @@ class Brackets(Case):
             self.assertEqual(document.match(1, columns[2], encoding), Partner(1, columns[1], length))
             self.assertEqual([document.level(1, column, encoding) for column in columns], [0, 1, 2, 1])
         for call in (document.match, document.level):
-            self.no_range("column 4 of line 1 stands inside a character, in bytes of UTF-8", call, 1, 4, "utf-8")
+            self.no_range("column 4 of line 1 is inside a character, in bytes of UTF-8", call, 1, 4, "utf-8")
             self.assertRaises(ValueError, call, 1, 1, "utf-9")
         self.assertRaises(ValueError, document.brackets, 1, 1, "utf-9")
 
@@ -815,7 +815,7 @@ class Brackets(Case):
     def test_level(self):
         document = self.document("f(x)")
         self.assertEqual([document.level(1, column) for column in range(1, 6)], [0, 0, 1, 1, 0])
-        for said, line, column in [("column 6 is behind", 1, 6), ("line 2", 2, 1), ("lines count", 0, 0), ("column -1", 1, -1)]:
+        for said, line, column in [("column 6 is beyond", 1, 6), ("line 2", 2, 1), ("lines count", 0, 0), ("column -1", 1, -1)]:
             self.no_range(said, document.level, line, column)
 
 
@@ -827,7 +827,7 @@ class Snapshots(Case):
             self.assertEqual([snapshot.read(n) for n in (3, 4, 9, 9)], ["hel", "lo ", SMILE, ""])
             self.assertEqual(snapshot.read(), "")
             for most in (1, 0):
-                self.no_range(f"at most {most} units are wanted", snapshot.read, most)
+                self.no_range(f"`most` is {most}, and must be at least 2", snapshot.read, most)
             self.no_range("most -1 is below 0", snapshot.read, -1)
         self.refuses(ClosedError, "snapshot 1: it is closed", snapshot.read)
 
@@ -878,7 +878,7 @@ class Mirrors(Case):
         self.assertEqual(document.send(), Event(1, 1))
         document.undo()
         self.assertEqual(document.send(), (2, 2))
-        said = "event 2: the mirror has version 1, and the event begins with version 2"
+        said = "event 2: the mirror has version 1, and the event leads from version 2"
         error = self.refuses(GapError, said, document.deliver, 2)
         self.assertEqual((error.have, error.need, isinstance(error, ValueError)), (1, 2, True))
         self.assertEqual(document.mirror_now(), MirrorState(1, 2, 1))
@@ -1048,7 +1048,7 @@ class Loading(Case):
     @unittest.skipUnless(shutil.which("cc"), "there is no cc")
     def test_another_version(self):
         with tempfile.TemporaryDirectory() as room:
-            for version, said in [(400, "it is of version 0.4.0"), (20_003, "it is of version 2.0.3"), (10_100, "it lacks a call")]:
+            for version, said in [(400, "it has version 0.4.0"), (20_003, "it has version 2.0.3"), (10_100, "it lacks a call")]:
                 source = f"unsigned tm_version(void) {{ return {version}; }}"
                 library = str(Path(room, f"{version}.so"))
                 subprocess.run(["cc", "-shared", "-fPIC", "-o", library, "-x", "c", "-"], input=source, text=True, check=True)

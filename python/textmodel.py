@@ -13,24 +13,22 @@ True
 'f(x); // )\\n'
 >>> document.close()
 
-A `Session` has 64 documents, which one joint edit may change at once; `Document(text)` makes a session of its own.
+A `Session` has 64 documents; a joint edit may change several at once. `Document(text)` makes a session of its own.
 
-An offset counts UTF-16 units from 0, and so does a length: a character above U+FFFF has two. `units` tells how many a `str` has.
-Lines and columns count from 1. A column counts units, or what its `encoding` names: `"utf-8"` for bytes, `"utf-32"` for code points,
-as an index of a `str` counts them from 0.
-A place is an offset from 0 to `len(document)`, but not inside a character, nor between a CR and its LF in a document whose line
-endings are CR LF. A span goes from one place up to another, and does not include the unit at its end. Numbers are below 2**64.
+Offsets and lengths count UTF-16 units, offsets from 0. A character above U+FFFF has two units; `units` counts those of a `str`.
+Lines and columns count from 1. A column counts units, or with an `encoding` of `"utf-8"` bytes, of `"utf-32"` code points.
+A valid offset is from 0 to `len(document)`, not inside a character, and not between a CR and its LF in a document with CR LF line
+endings. A valid span has two valid offsets, the start not above the end; it excludes the unit at its end. Numbers are below 2**64.
 
-A call that raises has changed nothing. `TextModelError` is the base of what this module raises by itself. Its message says which
-document, and which edit or decoration, was refused; `document` and `index` have their numbers. Each of its kinds is a kind of
-Python's own error, too. A word that is not known, as for an encoding or a line ending, raises ValueError, and an object of another
-type TypeError.
+A call that raises has changed nothing. `TextModelError` is the base of the errors of this module. The message names the refused
+document, edit or decoration; `document` and `index` have their numbers. Each error is also one of Python's built-in errors. An
+unknown keyword, as for an encoding or a line ending, raises ValueError, and an argument of a wrong type TypeError.
 
-Any thread may call. Calls on documents of one session wait for one another, those on several sessions go on at once.
+Any thread may call. Calls on one session wait for one another; calls on different sessions run at once.
 
-The library is taken from where the environment variable TEXTMODEL_LIBRARY names it, else from beside this file, where it is
-libtextmodel.so.1 or libtextmodel.so, in a checkout then from bin/, and else from where the loader finds it. One that is in
-unproved_library/ of those folders is taken with a RuntimeWarning that nothing of it is proved.
+The library is the file that the environment variable TEXTMODEL_LIBRARY names; else libtextmodel.so.1 or libtextmodel.so in the folder
+of this file, then in a checkout in bin/; else the one that the loader finds. If it is in a folder unproved_library/ of these, a
+RuntimeWarning says that it is not proved.
 """
 from __future__ import annotations
 
@@ -65,16 +63,16 @@ MAJOR = 1
 NAMES = ("libtextmodel.so.1", "libtextmodel.so")
 VARIABLE = "TEXTMODEL_LIBRARY"
 UTF_16 = "utf-16-le"
-LONE = "surrogatepass"  # a surrogate that stands in no pair is a unit of the text like any other
+LONE = "surrogatepass"  # a lone surrogate is a unit of the text like any other
 
-# How much room there is for a line and for a list at first, and how much a part of a text has.
+# The first sizes of the buffers for a line and for lists, and the length of a part of a text.
 UNITS_AT_FIRST = 256
 ITEMS_AT_FIRST = 64
 BRACKETS_AT_FIRST = 1 << 14
 PART_UNITS = 1 << 15
 
 OK, NOTHING, UNKNOWN, RANGE, OVERLAP, LIMIT, MEMORY, ENCODING, EMPTY, SHORT, JOINT, GAP = range(12)
-ENDINGS = (None, "lf", "crlf")  # each at its number
+ENDINGS = (None, "lf", "crlf")  # the index is the number in C
 ENCODINGS = {"utf-8": 8, "utf-16": 16, "utf-32": 32}
 COUNTED = {"utf-8": "bytes of UTF-8", "utf-16": "units of UTF-16", "utf-32": "code points"}
 
@@ -88,10 +86,10 @@ New = Tuple[int, int, int, bool]  # the fields of a new decoration
 
 
 class TextModelError(Exception):
-    """Why a call was refused. It has changed nothing.
+    """A call was refused, and changed nothing.
 
-    `document` is the number of the document at fault. `index` is the place of what is at fault: of an edit among those of its
-    document, of a decoration in `add` or in `remove`, or of a byte in a text. It counts from 0. Both are None where none is known.
+    `document` is the number of the document for which it was refused. `index` is the index of the invalid item, from 0: of an edit
+    among those of its document, of a decoration in `add` or in `remove`, or of a byte in a text. Each is None if it is not known.
     """
 
     document: Optional[int] = None
@@ -99,7 +97,7 @@ class TextModelError(Exception):
 
 
 class UnknownError(TextModelError, LookupError):
-    """There is no document, decoration, snapshot, mirror or event of this number."""
+    """There is no document, decoration, snapshot, mirror or event with this number."""
 
 
 class RangeError(TextModelError, IndexError):
@@ -107,11 +105,11 @@ class RangeError(TextModelError, IndexError):
 
 
 class OverlapError(TextModelError, ValueError):
-    """Two edits of one document overlap. `index` is that of the first one that overlaps one before it."""
+    """Two edits of one document overlap. `index` is that of the first edit that overlaps an earlier one."""
 
 
 class LimitError(TextModelError, ValueError):
-    """The text, a version, an id, or how many decorations, snapshots or events there are would pass its limit."""
+    """The text, a version, an id, or the number of decorations, snapshots or events would pass its limit."""
 
 
 class NoMemoryError(TextModelError, MemoryError):
@@ -119,7 +117,7 @@ class NoMemoryError(TextModelError, MemoryError):
 
 
 class EncodingError(TextModelError, ValueError):
-    """The bytes are not valid UTF-8. `index` is how many stand before the first one at fault."""
+    """The bytes are not valid UTF-8. `index` is that of the first invalid byte."""
 
 
 class ClosedError(TextModelError, ValueError):
@@ -127,48 +125,48 @@ class ClosedError(TextModelError, ValueError):
 
 
 class JointError(TextModelError, ValueError):
-    """A step of several documents is not the last or next one in `document`, which has to be undone or redone first."""
+    """A joint step is not the last or next step of `document`: undo or redo the other steps there first."""
 
 
 class GapError(TextModelError, ValueError):
-    """A mirror lacks events before this one: it has version `have`, and the event begins with version `need`."""
+    """A mirror lacks earlier events: it has version `have`, and the event leads from version `need`."""
 
     have = need = 0
 
 
-# The error of each status, and what is said of it where nothing more is known.
+# The error of each status, and its message if nothing more is known.
 ERRORS: Dict[int, Tuple[Type[TextModelError], str]] = {
-    UNKNOWN: (UnknownError, "it is not there"),
+    UNKNOWN: (UnknownError, "there is no such number"),
     RANGE: (RangeError, "it is out of range"),
     OVERLAP: (OverlapError, "two edits overlap"),
     LIMIT: (LimitError, "the text would have 2**40 units or more, or its version would pass 2**63 - 1"),
-    MEMORY: (NoMemoryError, "there is no memory for it"),
+    MEMORY: (NoMemoryError, "out of memory"),
     ENCODING: (EncodingError, "byte {0.index} is not valid UTF-8"),
     EMPTY: (ClosedError, "the session is closed"),
-    JOINT: (JointError, "its step is one of several documents, and document {0.doc} has another one to go first"),
-    GAP: (GapError, "the mirror has version {0.have}, and the event begins with version {0.need}"),
+    JOINT: (JointError, "its step is a joint one, and document {0.doc} has another step to go first"),
+    GAP: (GapError, "the mirror has version {0.have}, and the event leads from version {0.need}"),
 }
 
 NO_LENGTH = "a bracket begins or ends inside a character, and has no such column or length"
-NOTHING_SOUGHT = "there is no text to look for"
+NOTHING_SOUGHT = "the sought text is empty"
 NO_MARKS = (
-    "the brackets or what hides them are invalid: brackets are up to 64 pairs, all different; each text has 1 to 32 units and no CR or "
-    "LF; a block comment has both of its texts; quotes are up to 8 different units, and no backslash or surrogate"
+    "the brackets or the hiding are invalid: at most 64 pairs of brackets, all texts different; each text of 1 to 32 units without CR "
+    "or LF; a block comment with both texts or none; at most 8 quotes, all different, none a backslash or a surrogate"
 )
 
-# The limits of calls that make no text longer.
+# The limits of calls that do not change the text.
 LIMITS = {
     "decorate": "there would be more than 2**20 decorations, or an id would pass 2**63 - 1",
     "snapshot": "1,000 snapshots are open, or its id would pass 2**63 - 1",
     "send": "65,536 events were sent since the document was opened",
 }
 
-Why = Union[None, str, Callable[[], Optional[str]]]  # a cause, or what looks for it once the call was refused
+Why = Union[None, str, Callable[[], Optional[str]]]  # a cause, or a function that finds it once the call was refused
 
 
 def refusal(status: int, what: str, why: Why = None, fault: Any = None) -> TextModelError:
-    """The error of a status. Its cause is looked for where an argument was refused."""
-    error, plain = ERRORS.get(status, (TextModelError, f"the library answers {status}"))
+    """Returns the error of a status. If an argument was refused, finds its cause."""
+    error, plain = ERRORS.get(status, (TextModelError, f"the library returned status {status}"))
     cause = (why() if callable(why) else why) if status in (UNKNOWN, RANGE, OVERLAP) else None
     made = error(f"{what}: {cause or plain.format(fault)}")
     if isinstance(made, EncodingError):
@@ -178,7 +176,7 @@ def refusal(status: int, what: str, why: Why = None, fault: Any = None) -> TextM
     return made
 
 
-# ---- What crosses
+# ---- Arguments and results
 
 
 class Position(NamedTuple):
@@ -189,15 +187,15 @@ class Position(NamedTuple):
 
 
 class Span(NamedTuple):
-    """The units from the place `start` up to the place `end`."""
+    """The units from offset `start` up to offset `end`."""
 
     start: int
     end: int
 
 
 class Edit(NamedTuple):
-    """An edit of several: the text takes the place of the units from `start` up to `end`. With `force`, a decoration that starts or
-    ends there moves to the end of the text, whatever its `stick`.
+    """One of several edits: it replaces the units from `start` up to `end` by the text. With `force`, a decoration that starts or ends
+    there moves to the end of the new text, whatever its `stick`.
     """
 
     start: int
@@ -207,8 +205,8 @@ class Edit(NamedTuple):
 
 
 class Change(NamedTuple):
-    """One of the edits of the last change: the text took the place of the units from `start` up to `end`, which count in the text
-    that the edits before this one had left.
+    """An edit of the last change: the text replaced the units from `start` up to `end`. Both offsets refer to the text after the edits
+    before this one.
     """
 
     start: int
@@ -217,7 +215,7 @@ class Change(NamedTuple):
 
 
 class Stick(enum.IntEnum):
-    """Text that is typed at these ends of a decoration makes it grow: at both, at none, at its start or at its end."""
+    """The ends of a decoration at which typed text makes it grow: both, neither, its start or its end."""
 
     BOTH = 0
     NONE = 1
@@ -226,8 +224,8 @@ class Stick(enum.IntEnum):
 
 
 class NewDecoration(NamedTuple):
-    """A decoration that is to be added over the units from `start` up to `end`. With `collapse` it becomes empty, at the start of
-    the edit, where all of its text is replaced.
+    """A decoration to add, over the units from `start` up to `end`. With `collapse`, an edit that replaces all of its text leaves it
+    empty, at the start of the edit.
     """
 
     start: int
@@ -237,7 +235,7 @@ class NewDecoration(NamedTuple):
 
 
 class Decoration(NamedTuple):
-    """A decoration over the units from `start` up to `end`. An edit around one of its ends may leave that inside a character."""
+    """A decoration over the units from `start` up to `end`. An edit around one of its ends may leave that end inside a character."""
 
     id: int
     owner: int
@@ -252,7 +250,8 @@ class Decoration(NamedTuple):
 
 
 class BracketState(enum.IntEnum):
-    """What a bracket is: one of a pair, an opening one that none closes, or a closing one that closes none."""
+    """The state of a bracket: the opening or closing one of a pair, an opening one never closed, or a closing one without its opening.
+    """
 
     OPENING = 0
     CLOSING = 1
@@ -264,8 +263,8 @@ STATES = tuple(BracketState)
 
 
 class Bracket(NamedTuple):
-    """A bracket: where it starts, and its length, which counts as the column does. `kind` is the place of its pair among the pairs,
-    from 0, and `level` is how many brackets are open around it.
+    """A bracket: its position, and its length in the unit of the column. `kind` is the index of its pair, from 0. `level` is the number
+    of brackets open around it.
     """
 
     line: int
@@ -281,7 +280,7 @@ class Bracket(NamedTuple):
 
 
 class Partner(NamedTuple):
-    """The other bracket of a pair: where it starts, and its length, which counts as the column does."""
+    """The other bracket of a pair: its position, and its length in the unit of the column."""
 
     line: int
     column: int
@@ -293,14 +292,14 @@ class Partner(NamedTuple):
 
 
 class Event(NamedTuple):
-    """A change that was sent to mirrors: its number, and the version that it begins with."""
+    """A change that was sent as an event: its number, and the version from which it leads."""
 
     number: int
     version: int
 
 
 class MirrorState(NamedTuple):
-    """What a mirror is: the version whose text it has, and how many units and lines that has."""
+    """The state of a mirror: its version, and the number of units and lines of its text."""
 
     version: int
     units: int
@@ -309,11 +308,11 @@ class MirrorState(NamedTuple):
 
 @dataclass(frozen=True)
 class Hiding:
-    """What begins and ends comments and strings, in which brackets are text. What is empty is not there.
+    """The texts that begin and end comments and strings, in which brackets are ignored. An empty text means that there are none.
 
-    `line` begins a comment up to the end of its line. `block` are the two texts around a comment of several lines. Each of
-    `quotes` is a unit that begins a string, which ends behind the next one like it or with its line; in a string a backslash
-    takes the unit behind it along. These texts have up to 32 units, without CR or LF, and there are up to 8 quotes.
+    `line` begins a comment up to the end of its line. `block` has the two texts around a block comment. Each unit of `quotes` begins a
+    string, which ends after the next such unit or with its line; a backslash in a string escapes the next unit. These texts have at
+    most 32 units, without CR or LF, and there are at most 8 quotes.
     """
 
     line: str = ""
@@ -328,8 +327,8 @@ LANGUAGES: Dict[str, Hiding] = {
     "javascript": Hiding("//", ("/*", "*/"), "\"'`"),
     "shell": Hiding("#", quotes="\"'"),
 }
-"""What hides brackets in texts of some languages: `Document(text, language="c")` takes it from here. Each string ends with its line,
-also one that goes on in the language, as in three quotes.
+"""Comments and strings of some languages, for `Document(text, language="c")`. Each string ends with its line, even if the language
+lets it go on, as with three quotes.
 """
 
 NewLike = Union[NewDecoration, Tuple[int, int], Tuple[int, int, int], Tuple[int, int, int, bool]]
@@ -370,13 +369,13 @@ def mirror_state_of(it: Any) -> MirrorState:
 
 # ---- The library
 
-ADDRESS = ctypes.c_void_p  # one of any kind, so that bytes, arrays and references can be given
-TEXT = [ADDRESS, U64]  # where units, bytes, structs or numbers are, and how many
-OUT = [ADDRESS, U64, ADDRESS]  # where there is room, for how many, and where it is told how many there are
+ADDRESS = ctypes.c_void_p  # of any type, so that bytes, arrays and references can be passed
+TEXT = [ADDRESS, U64]  # the address of units, bytes, structs or numbers, and their number
+OUT = [ADDRESS, U64, ADDRESS]  # the address of a buffer, its length, and the address for the number of items
 DOC = U64
-MARKS = [*TEXT, *TEXT, U64, U64, U64, *TEXT]  # the pairs, their texts, the lengths of marks, and theirs
+MARKS = [*TEXT, *TEXT, U64, U64, U64, *TEXT]  # the pairs, their texts, the lengths of marks, and the marks
 
-# What calls take behind the session. Every one answers a status.
+# The parameters of the calls after the session. Every call returns a status.
 SIGNATURES: Dict[str, List[Any]] = {
     "tm_make tm_free": [],
     "tm_stop tm_can_undo tm_can_redo": [DOC],
@@ -411,12 +410,12 @@ CALLS = {name: signature for names, signature in SIGNATURES.items() for name in 
 
 
 def in_folder(folder: Path) -> Optional[str]:
-    """The library that is in the folder, if one is."""
+    """Returns the path of the library in the folder, if any."""
     return next((str(folder / name) for name in NAMES if (folder / name).exists()), None)
 
 
 def found_library() -> Optional[str]:
-    """The path of the library that is beside this file, or in the checkout of this file."""
+    """Returns the path of the library in the folder of this file, or in its checkout."""
     here = Path(__file__)
     top = here.resolve().parent.parent
     folders = [here.parent, top / "bin"] if (top / "crates.txt").exists() else [here.parent]
@@ -430,7 +429,7 @@ def found_library() -> Optional[str]:
 
 
 def opened_library() -> Tuple[str, ctypes.CDLL]:
-    """The library, and where it was found; OSError where there is none."""
+    """Returns the path of the library, and the library; OSError if there is none."""
     named = os.environ.get(VARIABLE) or found_library()
     faults = []
     for name in [named] if named else NAMES:
@@ -442,13 +441,13 @@ def opened_library() -> Tuple[str, ctypes.CDLL]:
 
 
 def loaded() -> ctypes.CDLL:
-    """The library with the types of its calls; ImportError where it is of another major version, or lacks a call."""
+    """Loads the library and sets the types of its calls; ImportError if its major version is another, or it lacks a call."""
     name, library = opened_library()
     try:
         library.tm_version.argtypes, library.tm_version.restype = [], NUMBER
         version = library.tm_version()
         if version // 10_000 != MAJOR:
-            raise ImportError(f"{name}: it is of version {spelled(version)}, and one of version {MAJOR} is wanted")
+            raise ImportError(f"{name}: it has version {spelled(version)}, and major version {MAJOR} is needed")
         for call, arguments in CALLS.items():
             function = getattr(library, call)
             function.argtypes, function.restype = [ADDRESS, *arguments], NUMBER
@@ -465,7 +464,7 @@ LIBRARY = loaded()
 
 
 def library_version() -> str:
-    """The version of the library, as 1.0.0."""
+    """Returns the version of the library, such as 1.0.0."""
     return spelled(LIBRARY.tm_version())
 
 
@@ -473,7 +472,7 @@ def library_version() -> str:
 
 
 def units(text: str) -> int:
-    """How many UTF-16 units a text has.
+    """Returns the length of a text in UTF-16 units.
 
     >>> units("a"), units("\\U0001f600")
     (1, 2)
@@ -482,25 +481,25 @@ def units(text: str) -> int:
 
 
 def encoded(text: str) -> bytes:
-    """The units of a text. Those of an object of bytes stand at an even address."""
+    """Returns the units of a text as bytes, which start at an even address."""
     if not isinstance(text, str):
         raise TypeError(f"a text is a str, not {type(text).__name__}")
     return text.encode(UTF_16, LONE)
 
 
 def crossing(text: str) -> Tuple[bytes, int]:
-    """A text as calls take it: its units, and how many they are."""
+    """Returns a text as calls take it: its units and their number."""
     data = encoded(text)
     return data, len(data) // 2
 
 
 def decoded(data: Union[bytes, bytearray, memoryview]) -> str:
-    """The text of these units, with those of halves of characters at its end."""
+    """Returns the text of these units; halves of characters are kept as lone surrogates."""
     return utf_16_le_decode(data, LONE, True)[0]
 
 
 def number(value: int, what: str, error: Type[TextModelError] = RangeError) -> int:
-    """The number, which a call takes where it is 0 or more, and below 2**64."""
+    """Returns the number if it is from 0 to 2**64 - 1, else raises the error."""
     found = operator.index(value)
     if found < 0:
         raise error(f"{what} {found} is below 0")
@@ -510,7 +509,7 @@ def number(value: int, what: str, error: Type[TextModelError] = RangeError) -> i
 
 
 def numbers(**values: int) -> List[int]:
-    """Such numbers, by their names."""
+    """Returns such numbers, given with their names."""
     return [number(value, what) for what, value in values.items()]
 
 
@@ -527,37 +526,37 @@ def encoding_number(encoding: str) -> int:
 
 
 def hiding_of(language: Optional[str], hiding: Optional[Hiding]) -> Hiding:
-    """What hides brackets, by the language or by itself."""
+    """Returns the hiding of the language, or the one given."""
     if language is None:
         return hiding or Hiding()
     if hiding is not None:
-        raise ValueError("what hides brackets is told by a language or by `hiding`, not by both")
+        raise ValueError("give `language` or `hiding`, not both")
     if language not in LANGUAGES:
         raise ValueError(f"a language is one of {', '.join(LANGUAGES)}, not {language!r}: `hiding` is for any other")
     return LANGUAGES[language]
 
 
 def edit_of(words: EditLike) -> Edit:
-    """An edit of such numbers."""
+    """Returns the edit, with valid numbers."""
     fields: Tuple[Any, ...] = words
     edit = Edit(*fields)
     return edit._replace(start=number(edit.start, "offset"), end=number(edit.end, "offset"))
 
 
 def new_decoration(words: NewLike) -> New:
-    """The fields of a new decoration, of such numbers."""
+    """Returns the fields of a new decoration, with valid numbers."""
     fields: Tuple[Any, ...] = words
     new = NewDecoration(*fields)
     return number(new.start, "offset"), number(new.end, "offset"), number(new.stick, "stick"), new.collapse
 
 
 def array(of: Type[Any], items: Sequence[Any]) -> Any:
-    """An array of the items, which has an address also where there is no item."""
+    """Returns an array of the items, which has an address even if it is empty."""
     return (of * max(len(items), 1))(*items)
 
 
 class Room:
-    """Room for so many items of `size` bytes, of which the library tells how many it put there."""
+    """A buffer for `count` items of `size` bytes, and the number of items that the library wrote."""
 
     def __init__(self, count: int, size: int = 2) -> None:
         self.items = max(count, 1)
@@ -567,12 +566,12 @@ class Room:
 
     @property
     def out(self) -> Tuple[Any, int, Any]:
-        """What a call takes of it."""
+        """The arguments of a call that fills it."""
         return ctypes.byref(ctypes.c_char.from_buffer(self.bytes)), self.items, ctypes.byref(self.count)
 
     @property
     def told(self) -> memoryview:
-        """What is in it."""
+        """The items that were written."""
         return memoryview(self.bytes)[: self.size * self.count.value]
 
 
@@ -580,7 +579,7 @@ class Room:
 
 
 class Session:
-    """64 documents, numbered from 0, all of them empty at first.
+    """64 documents, numbered from 0, all empty at first.
 
     >>> with Session() as session:
     ...     session[0].open("fn old() {}")
@@ -591,8 +590,8 @@ class Session:
     use new;
     True use old;
 
-    A session is closed by `close`, at the end of a `with`, or when nothing holds it and its documents any more. A call on a
-    closed one raises ClosedError.
+    A session is closed by `close`, at the end of a `with`, or when neither it nor its documents are referenced any more. A call on a
+    closed session raises ClosedError.
     """
 
     def __init__(self) -> None:
@@ -606,11 +605,11 @@ class Session:
         self._end = weakref.finalize(self, LIBRARY.tm_free, self._at)
 
     def __len__(self) -> int:
-        """How many documents there are, which is 64."""
+        """Returns the number of documents, which is 64."""
         return DOCUMENTS
 
     def __getitem__(self, number: int) -> Document:
-        """The document of this number; UnknownError where there is none."""
+        """Returns the document with this number; UnknownError if there is none."""
         found = operator.index(number)
         if not 0 <= found < DOCUMENTS:
             raise UnknownError(f"there is no document {found}: they are numbered from 0 to {DOCUMENTS - 1}")
@@ -619,15 +618,15 @@ class Session:
         return document
 
     def __iter__(self) -> Iterator[Document]:
-        """The documents, from that of number 0 on."""
+        """Returns the documents, from number 0 on."""
         return (self[n] for n in range(DOCUMENTS))
 
     def joint(self, edits: Mapping[int, Iterable[EditLike]]) -> None:
-        """Carries out edits in several documents at once, all of them or none, as a step that is undone in all of them at once.
+        """Carries out edits in several documents, all or none, as one undo step in all of them.
 
-        `edits` has, by the number of a document, its edits, as `Document.batch` takes them. A document without edits is left out,
-        and of one document alone this is its `batch`. UnknownError where a document is above 63; else RangeError where there is no
-        edit, or one is not between two places of its document; else OverlapError; else LimitError.
+        `edits` maps the number of a document to its edits, as `Document.batch` takes them. A document without edits is left out. With
+        edits in one document only, this is its `batch`. UnknownError if a number is above 63; else RangeError if there is no edit or a
+        span is invalid; else OverlapError; else LimitError.
         """
         given = [(self[number], batch) for number, batch in edits.items()]
         self._carry_out("joint edit", [(document, document._edits_of("joint edit", batch)) for document, batch in given])
@@ -644,15 +643,15 @@ class Session:
                 return
             if LIBRARY.tm_raw_joint_fault(self._at, *ops, len(joined) // 2, status, self._fault_at("index")) == OK:
                 document, at, edit, _ = made[self._fault.index]
-                cause = document._why_no_span(edit.start, edit.end) if status == RANGE else "it overlaps one before it"
+                cause = document._why_no_span(edit.start, edit.end) if status == RANGE else "it overlaps an earlier one"
                 raise document._error(ERRORS[status][0], what, f"edit {at}: {cause}", at)
-            why = None if made else "there is no edit"
+            why = None if made else "there are no edits"
             raise batches[0][0]._refusal(status, what, why) if len(batches) == 1 else refusal(status, what, why)
 
     def answer(self, line: Union[bytes, str]) -> bytes:
-        """Answers a line of a script, which comes without its LF: the bytes of the reply with its LF, none for a blank line.
+        """Answers a script line, given without its LF. Returns the bytes of the reply with its LF, or none for a blank line.
 
-        The program would write the same. A line that is not a command is answered so too, and raises nothing.
+        The reply is that of the program. An invalid line gets a reply too, and raises no error.
 
         >>> Session().answer('{"cmd":"open","doc":3,"text":"ab"}')
         b'ok 1 2 1\\n'
@@ -670,13 +669,13 @@ class Session:
             return bytes(reply.told)
 
     def _note_opened(self, line: bytes) -> None:
-        """Notes which document a line opened, if it did: its version is 1 then, as the reply tells."""
+        """Notes which document a line opened, if any. Called if the reply has version 1, as that to an open has."""
         command = json.loads(line)
         if command["cmd"] == "open":
             self._generations[command.get("doc", 0)] += 1
 
     def _fault_at(self, field: str) -> Any:
-        """Where a call tells this field of the fault."""
+        """Returns the address of this field of the fault."""
         return ctypes.byref(self._fault, getattr(CFault, field).offset)
 
     def _check(self, status: int, what: str) -> None:
@@ -688,7 +687,7 @@ class Session:
         return not self._end.alive
 
     def close(self) -> None:
-        """Frees all documents; nothing is done where that was done before."""
+        """Frees all documents. Does nothing if the session is closed already."""
         with self._lock:
             self._end()
 
@@ -706,24 +705,24 @@ class Session:
 
 
 class Document:
-    """A document of a session, or one by itself: a text, empty at first, or this one.
+    """A document of a session, or one in a session of its own.
 
-    `language` is one of `LANGUAGES`, in whose comments and strings brackets are text. `hiding` tells what comments and strings are
-    in any other. Without both, nothing hides brackets. `ending` is None where the line endings stay as they come: LF, CR, or CR LF.
-    With `"lf"` or `"crlf"` the text gets these endings, and so does all that is put into it later. `brackets` are up to 64 pairs of
-    an opening and a closing text. All are different, and each has 1 to 32 units and no line break. None are `()`, `[]` and `{}`.
+    `language` is one of `LANGUAGES`; brackets in its comments and strings are ignored. `hiding` defines those of any other language.
+    Without both, there are no comments or strings. `ending` None keeps line endings as they come: LF, CR or CR LF. `"lf"` and `"crlf"`
+    convert them, in text inserted later too. `brackets` are at most 64 pairs of an opening and a closing text, all different, each of
+    1 to 32 units without a line break; None means `()`, `[]` and `{}`.
 
     >>> with Document("if [ a ]; then # ]", language="shell", brackets=[("if", "fi"), ("[", "]")]) as document:
     ...     [(it.column, it.state.name) for it in document.brackets(1, 1)]
     [(1, 'UNCLOSED'), (4, 'OPENING'), (8, 'CLOSING')]
 
-    A `str` may have lone surrogates. `bytes` are UTF-8, else EncodingError. A byte order mark is a unit of the text too.
-    RangeError where the brackets or what hides them are invalid; LimitError where the text would have 2**40 units or more.
+    A `str` may have lone surrogates. `bytes` are UTF-8, else EncodingError. A byte order mark counts as a unit of the text.
+    RangeError if the brackets or the hiding are invalid; LimitError if the text would have 2**40 units or more.
 
-    A document that was made by itself is closed by `close`, at the end of a `with`, or when nothing holds it any more.
+    A document with a session of its own is closed by `close`, at the end of a `with`, or when it is not referenced any more.
     """
 
-    __iter__: ClassVar[None] = None  # `lines` and `parts` are to be chosen from
+    __iter__: ClassVar[None] = None  # call `lines` or `parts` instead
 
     def __init__(
         self, text: Union[str, bytes] = "", language: Optional[str] = None, *, ending: Optional[str] = None,
@@ -740,14 +739,14 @@ class Document:
         self, text: Union[str, bytes] = "", language: Optional[str] = None, *, ending: Optional[str] = None,
         brackets: Optional[Iterable[Pair]] = None, hiding: Optional[Hiding] = None,
     ) -> None:  # fmt: skip
-        """Puts a new document in the place of the old one, in version 1. It takes what `Document` takes.
+        """Replaces the document by a new one, of version 1. The arguments are those of `Document`.
 
-        The decorations, snapshots, steps of undo, mirror and events of the old one are gone.
+        The decorations, snapshots, undo steps, mirror and events of the old one are lost.
         """
         kind, hidden = ending_number(ending), hiding_of(language, hiding)
         pairs = None if brackets is None else [(opening, closing) for opening, closing in brackets]
         if pairs == []:
-            raise self._error(RangeError, "open", "there are no brackets: None is for `()`, `[]` and `{}`")
+            raise self._error(RangeError, "open", "the list of brackets is empty: None means `()`, `[]` and `{}`")
         marks = marks_of(pairs or [], hidden)
         with self._session._lock:
             if isinstance(text, bytes):
@@ -759,7 +758,7 @@ class Document:
 
     @property
     def session(self) -> Session:
-        """The session of which this is a document."""
+        """The session of this document."""
         return self._session
 
     @property
@@ -772,7 +771,7 @@ class Document:
         return self._session.closed
 
     def close(self) -> None:
-        """Frees the document, one that was made by itself; nothing is done where that was done before."""
+        """Frees a document with a session of its own, else raises ValueError. Does nothing if it is closed already."""
         if not self._is_alone:
             raise ValueError(f"document {self._number} is closed with its session")
         self._session.close()
@@ -784,7 +783,7 @@ class Document:
         self.close()
 
     def __eq__(self, other: object) -> bool:
-        """Whether the other is the same document of the same session."""
+        """Returns whether the other is the same document of the same session."""
         if not isinstance(other, Document):
             return NotImplemented
         return self._session is other._session and self._number == other._number
@@ -798,10 +797,10 @@ class Document:
             return f"<textmodel.{name}, closed>"
         return f"<textmodel.{name} of {len(self)} units and {self.line_count} lines, version {self.version}>"
 
-    # Calls, and what they tell
+    # Calls and their results
 
     def _called(self, what: str) -> str:
-        """The name of a call in a message."""
+        """Returns the name of a call in a message."""
         return what if self._is_alone else f"{what} in document {self._number}"
 
     def _error(self, error: Type[TextModelError], what: str, cause: Optional[str], index: Optional[int] = None) -> TextModelError:
@@ -818,7 +817,7 @@ class Document:
         return error
 
     def _do(self, call: Callable[..., int], *words: Any, what: str, why: Why = None) -> bool:
-        """Makes a call: whether there was anything to do or to tell. Raises where it was refused."""
+        """Makes a call. Returns whether it did or found something; raises if it was refused."""
         with self._session._lock:
             status = call(self._session._at, self._number, *words)
             if status > NOTHING:
@@ -826,12 +825,12 @@ class Document:
             return status == OK
 
     def _number_of(self, call: Callable[..., int], *words: Any, what: str, why: Why = None) -> Optional[int]:
-        """The number that a call tells; None where it has nothing to tell."""
+        """Returns the number that a call sets; None if it found nothing."""
         found = U64()
         return found.value if self._do(call, *words, ctypes.byref(found), what=what, why=why) else None
 
     def _told(self, call: Callable[..., int], room: Room, *words: Any, what: str, why: Why = None) -> memoryview:
-        """What a call puts into the room, or into more of it, where it tells that it needs that."""
+        """Returns what a call writes into the buffer, or into a longer one if it needs that."""
         with self._session._lock:
             status = call(self._session._at, self._number, *words, *room.out)
             if status == SHORT:
@@ -844,7 +843,7 @@ class Document:
     def _list(
         self, call: Callable[..., int], of: Type[Any], made: Callable[[Any], Item], *words: Any, what: str, why: Why
     ) -> List[Item]:
-        """What is made of the structs that a call tells."""
+        """Returns the items made of the structs that a call writes."""
         size = ctypes.sizeof(of)
         told = self._told(call, Room(ITEMS_AT_FIRST, size), *words, what=what, why=why)
         return [made(of.from_buffer(told, at)) for at in range(0, len(told), size)]
@@ -852,21 +851,20 @@ class Document:
     # Changes
 
     def edit(self, start: int, end: int, text: str) -> None:
-        """Puts the text in the place of the units from `start` up to `end`, as the next version.
+        """Replaces the units from `start` up to `end` by the text. The version goes up by 1.
 
-        RangeError where one of the two is not a place of the text, or `start` is above `end`; LimitError where the text would have
-        2**40 units or more, or the version would pass 2**63 - 1.
+        RangeError if the span is invalid; LimitError if the text would have 2**40 units or more, or the version would pass 2**63 - 1.
 
         >>> document = Document("ab\\U0001f600")
         >>> document.edit(3, 4, "x")
         Traceback (most recent call last):
-        textmodel.RangeError: edit: offset 3 stands inside a character
+        textmodel.RangeError: edit: offset 3 is inside a character
         """
         words = numbers(start=start, end=end)
         self._do(LIBRARY.tm_raw_edit, *words, *crossing(text), what="edit", why=partial(self._why_no_span, *words))
 
     def edit_at(self, start: Place, end: Place, text: str, encoding: str = "utf-16") -> None:
-        """Does the same from one position up to another, each a line and a column. RangeError also where one is not there.
+        """Like `edit`, from one position up to another, each a line and a column. RangeError also if a position is invalid.
 
         >>> document = Document("été")
         >>> document.edit_at((1, 3), (1, 4), "T", "utf-8")
@@ -878,15 +876,15 @@ class Document:
         def why() -> Optional[str]:
             no_start = self._why_no_position(words[0], words[1], encoding)
             no_end = self._why_no_position(words[2], words[3], encoding)
-            return no_start or no_end or f"its start, {tuple(words[:2])}, is behind its end, {tuple(words[2:])}"
+            return no_start or no_end or f"its start, {tuple(words[:2])}, is after its end, {tuple(words[2:])}"
 
         self._do(LIBRARY.tm_raw_edit_at, *words, counts, *crossing(text), what="edit", why=why)
 
     def batch(self, edits: Iterable[EditLike]) -> None:
-        """Carries out several edits at once, as the next version. All count in the text before them. At one place their texts stand in
-        the order of the edits.
+        """Carries out several edits, all or none. The version goes up by 1. All offsets refer to the text before the call. Texts
+        inserted at the same offset come in the order of their edits.
 
-        RangeError as `edit` has it, and where there is no edit; else OverlapError where two of them overlap; else LimitError.
+        RangeError if there are no edits or a span is invalid; else OverlapError if two edits overlap; else LimitError.
 
         >>> document = Document("abcdef")
         >>> document.batch([(4, 5, "Y"), (1, 2, "XX")])
@@ -896,7 +894,7 @@ class Document:
         self._session._carry_out("batch", [(self, self._edits_of("batch", edits))])
 
     def _edits_of(self, what: str, edits: Iterable[EditLike]) -> List[Edit]:
-        """Edits of numbers that a call takes."""
+        """Returns the edits, with valid numbers."""
         found: List[Edit] = []
         try:
             for words in edits:
@@ -906,18 +904,17 @@ class Document:
         return found
 
     def undo(self) -> bool:
-        """Goes back to the text before the last step, as the next version; False where there is no step.
+        """Restores the text before the last step. The version goes up by 1. Returns False if there is no step.
 
-        Edits that follow one another are one step, where no `stop` comes between. A joint edit is undone in all of its
-        documents; JointError where it is not the last step of each of them. LimitError as `edit` has it.
+        Consecutive edits without a `stop` between them are one step. A joint edit is undone in all its documents; JointError if it is
+        not the last step of each of them. LimitError as in `edit`.
         """
         return self._do(LIBRARY.tm_raw_undo, self._session._fault_at("doc"), what="undo")
 
     def redo(self) -> bool:
-        """Goes on to the text after the step that was undone last, as the next version; False where there is no step.
+        """Restores the text after the step that was undone last. The version goes up by 1. Returns False if there is none.
 
-        A joint edit is redone in all of its documents; JointError where it is not the next step of each of them. LimitError as
-        `edit` has it.
+        A joint edit is redone in all its documents; JointError if it is not the next step of each of them. LimitError as in `edit`.
         """
         return self._do(LIBRARY.tm_raw_redo, self._session._fault_at("doc"), what="redo")
 
@@ -928,29 +925,29 @@ class Document:
 
     @property
     def can_redo(self) -> bool:
-        """Whether there is a step that was undone."""
+        """Whether there is a step to redo."""
         return self._do(LIBRARY.tm_can_redo, what="redo")
 
     def stop(self) -> None:
-        """Lets the next edit begin a step of undo."""
+        """Makes the next edit begin a new undo step."""
         self._do(LIBRARY.tm_stop, what="stop")
 
     @property
     def ending(self) -> Optional[str]:
-        """The line ending of the document: None for any, `"lf"` or `"crlf"`."""
+        """The line endings of the document: None for mixed ones, `"lf"` or `"crlf"`."""
         kind = NUMBER()
         self._do(LIBRARY.tm_kind, ctypes.byref(kind), what="ending")
         return ENDINGS[kind.value]
 
     def set_ending(self, ending: Optional[str]) -> bool:
-        """Changes all line endings to this one, as the next version and as a step of its own; False where they are so already. With
-        None the text stays as it is. LimitError as `edit` has it.
+        """Converts all line endings to this kind, as an undo step of its own. The version goes up by 1. Returns False if the document
+        has this kind already. None leaves the text unchanged. LimitError as in `edit`.
         """
         return self._do(LIBRARY.tm_set_eol, ending_number(ending), what="line endings")
 
     def changes(self) -> List[Change]:
-        """What the last change did, be it an edit, an undo, a redo, a replace or other line endings. The edits lead, one after
-        another, from the text before it to that of now, so a later one may move what one before it put. In version 1 there are none.
+        """Returns the edits of the last change, an edit, an undo, a redo, a replace or new line endings. Applied in order, they
+        turn the text before it into the present one. The list is empty in version 1.
 
         >>> document = Document("one two")
         >>> document.batch([(0, 3, "1"), (4, 7, "2")])
@@ -960,7 +957,7 @@ class Document:
         with self._session._lock:
             try:
                 return [*self._changes_in_turn()]
-            except BaseException:  # behind the last one the library begins again, and not before
+            except BaseException:  # the library starts again only after the last one
                 while LIBRARY.tm_next_change(self._session._at, self._number, ctypes.byref(CChange())) == OK:
                     pass
                 raise
@@ -975,21 +972,21 @@ class Document:
     # The text
 
     def __len__(self) -> int:
-        """How many units the text has."""
+        """Returns the length of the text in units."""
         return self._number_of(LIBRARY.tm_len, what="length") or 0
 
     def __bool__(self) -> bool:
-        """A document is there, also where its text is empty."""
+        """Returns True, even if the text is empty."""
         return True
 
     @property
     def line_count(self) -> int:
-        """How many lines the text has, 1 or more."""
+        """The number of lines, at least 1."""
         return self._number_of(LIBRARY.tm_line_count, what="lines") or 0
 
     @property
     def version(self) -> int:
-        """The version, from 1, which rises with each change of the text."""
+        """The version: 1 at first, and 1 more after each change."""
         return self._versions()[0]
 
     @property
@@ -1012,7 +1009,7 @@ class Document:
         return self.text
 
     def __getitem__(self, span: slice) -> str:
-        """The units of a slice, which counts as that of a list does; RangeError where one of its ends is not a place of the text.
+        """Returns the text of a slice, which counts units as that of a list counts items; RangeError if a bound is invalid.
 
         >>> document = Document("hello")
         >>> document[1:3], document[-2:]
@@ -1022,12 +1019,12 @@ class Document:
             return self.value(*self._ends_of(span))
 
     def __setitem__(self, span: slice, text: str) -> None:
-        """Puts the text in the place of a slice, as `edit` does."""
+        """Replaces a slice by the text, as `edit` does."""
         with self._session._lock:
             self.edit(*self._ends_of(span), text)
 
     def __delitem__(self, span: slice) -> None:
-        """Takes the units of a slice out, as `edit` does."""
+        """Deletes a slice, as `edit` does."""
         self[span] = ""
 
     def _ends_of(self, span: slice) -> Span:
@@ -1039,7 +1036,7 @@ class Document:
         return Span(start, max(start, end))
 
     def value(self, start: int, end: int) -> str:
-        """The text from `start` up to `end`; RangeError where one is not a place of the text, or `start` is above `end`."""
+        """Returns the text from `start` up to `end`; RangeError if the span is invalid."""
         start, end = numbers(start=start, end=end)
         with self._session._lock:
             room = Room(min(end, len(self)) - start)
@@ -1047,32 +1044,31 @@ class Document:
             return decoded(self._told(LIBRARY.tm_raw_value, room, start, end, what="value", why=why))
 
     def read(self, offset: int, most: int = PART_UNITS) -> str:
-        """At most so many units from `offset` on. It is one fewer where the last one would be cut from the next: from a pair of
-        surrogates, or from the LF of a CR LF line ending. RangeError where the offset is not a place of the text, or `most` is
-        below 2.
+        """Returns at most `most` units from `offset` on, one fewer if that would split a surrogate pair or a CR LF line ending.
+        RangeError if the offset is invalid or `most` is below 2.
         """
         offset, most = numbers(offset=offset, most=most)
 
         def why() -> Optional[str]:
-            return self._why_no_offset(offset) or f"at most {most} units are wanted, and a character may have two"
+            return self._why_no_offset(offset) or f"`most` is {most}, and must be at least 2: a character may have two units"
 
         with self._session._lock:
             room = Room(min(most, max(len(self), 2)))
             return decoded(self._told(LIBRARY.tm_raw_read_into, room, offset, what="read", why=why))
 
     def parts(self) -> Iterator[str]:
-        """The text in parts, so that it is never whole in memory. It is not to change meanwhile."""
+        """Returns the text in parts, so that it is never whole in memory. The document must not change meanwhile."""
         offset = 0
         while part := self.read(offset):
             yield part
             offset += units(part)
 
     def line(self, n: int) -> str:
-        """The line of this number, from 1, without its ending; RangeError where there is none."""
+        """Returns the line with this number, from 1, without its ending; RangeError if there is none."""
         return decoded(self._line(LIBRARY.tm_raw_line, n, 2))
 
     def line_utf8(self, n: int) -> bytes:
-        """The same in UTF-8, in which a lone surrogate is U+FFFD."""
+        """Returns the same in UTF-8; a lone surrogate becomes U+FFFD."""
         return bytes(self._line(LIBRARY.tm_raw_line_utf8, n, 1))
 
     def _line(self, call: Callable[..., int], n: int, size: int) -> memoryview:
@@ -1080,7 +1076,7 @@ class Document:
         return self._told(call, Room(UNITS_AT_FIRST, size), n, what="line", why=partial(self._why_no_line, n))
 
     def lines(self, first: int = 1, last: Optional[int] = None) -> Iterator[str]:
-        """The lines from `first` on, up to `last` or to the end, each as it is when it is asked for."""
+        """Returns the lines from `first` to `last`, both included, or to the end. Each is read when the iterator reaches it."""
         n = first
         while n <= (self.line_count if last is None else last):
             yield self.line(n)
@@ -1089,7 +1085,7 @@ class Document:
     # Places
 
     def position(self, offset: int, encoding: str = "utf-16") -> Position:
-        """The line and column of an offset; RangeError where it is not a place of the text.
+        """Returns the line and column of an offset; RangeError if it is invalid.
 
         >>> document = Document("a\\néb")
         >>> document.position(3), document.position(3, "utf-8")
@@ -1102,7 +1098,7 @@ class Document:
         return Position(at.line, at.column)
 
     def offset(self, line: int, column: int, encoding: str = "utf-16") -> int:
-        """The offset of a line and a column; RangeError where there is no such line, the column is beyond its end, or it is inside a
+        """Returns the offset of a line and a column; RangeError if the line is missing, or the column is beyond its end or inside a
         character.
         """
         words, counts = place_words((line, column)), encoding_number(encoding)
@@ -1113,8 +1109,8 @@ class Document:
         return found
 
     def stops(self, n: int, encoding: str = "utf-16") -> List[int]:
-        """The columns of a line at which a cursor may stop: where the extended grapheme clusters of Unicode begin. The one behind its
-        end is left out. RangeError where there is no such line.
+        """Returns the columns of a line at which a cursor may stop: the starts of Unicode's extended grapheme clusters. The end of the
+        line is left out. RangeError if there is no such line.
 
         >>> document = Document("e\\u0301x")
         >>> document.stops(1), document.stops(1, "utf-8")
@@ -1127,10 +1123,10 @@ class Document:
     # Search
 
     def find(self, text: str, start: Optional[int] = None, back: bool = False, most: Optional[int] = None) -> List[Span]:
-        """Where the text stands, unit for unit. Spans are found from left to right, and none overlaps the one before.
+        """Returns the spans at which the text occurs, unit for unit, found from left to right; none overlaps the one before.
 
-        Told are those that begin at `start` or behind it; with `back` those that end at `start` or before it, the last one first. None
-        is the start of the document, or with `back` its end. At most `most` are told, or all. RangeError where the text is empty.
+        Returned are those that start at or after `start`, or with `back` those that end at or before it, the last one first. None
+        means the start of the document, or with `back` its end. At most `most` are returned, or all. RangeError if the text is empty.
 
         >>> document = Document("abab")
         >>> document.find("b")
@@ -1144,9 +1140,10 @@ class Document:
         return self._list(LIBRARY.tm_raw_find, *of, *words, what="find", why=NOTHING_SOUGHT)
 
     def replace_all(self, text: str, other: str) -> int:
-        """Replaces each span that `find` finds, as the next version and as a step of its own; how many there were. 0 changes nothing.
+        """Replaces each span that `find` finds, as an undo step of its own. Returns their number. The version goes up by 1, but is
+        unchanged if there are none.
 
-        RangeError where the text is empty; LimitError as `edit` has it.
+        RangeError if the sought text is empty; LimitError as in `edit`.
         """
         words = *crossing(text), *crossing(other)
         return self._number_of(LIBRARY.tm_raw_replace_all, *words, what="replace", why=NOTHING_SOUGHT) or 0
@@ -1154,10 +1151,10 @@ class Document:
     # Decorations
 
     def decorate(self, owner: int, add: Iterable[NewLike] = (), remove: Iterable[int] = ()) -> range:
-        """Removes decorations of an owner by their ids, and adds others, all or none; the ids of the added ones, in their order.
+        """Removes decorations of an owner by their ids, and adds others, all or none. Returns the ids of the added ones, in order.
 
-        UnknownError where one that is to be removed is not there, is of another owner, or is named twice; else RangeError where a
-        span or a `stick` is invalid; else LimitError where there would be more than 2**20.
+        UnknownError if one to be removed is missing, has another owner, or is repeated; else RangeError if a span or a `stick` is
+        invalid; else LimitError if there would be more than 2**20, or an id would pass 2**63 - 1.
 
         >>> document = Document("let x = 1;")
         >>> document.decorate(owner=7, add=[(4, 5), (8, 9, Stick.NONE)])
@@ -1183,23 +1180,23 @@ class Document:
             return self._refusal(status, "decorate")
         at = self._session._fault.index
         if status == UNKNOWN:
-            cause = f"decoration {gone[at]} cannot be removed: it is not there, is of another owner, or is named twice"
+            cause = f"decoration {gone[at]} cannot be removed: it is missing, has another owner, or is repeated"
         else:
             start, end, stick, _ = made[at]
             cause = f"new decoration {at}: {self._why_no_span(start, end) or f'there is no stick {stick}'}"
         return self._error(ERRORS[status][0], "decorate", cause, at)
 
     def decoration(self, id: int) -> Decoration:
-        """The decoration of this id; UnknownError where there is none."""
+        """Returns the decoration with this id; UnknownError if there is none."""
         found = CDecoration()
         if not self._do(LIBRARY.tm_deco, number(id, "decoration", UnknownError), ctypes.byref(found), what="decoration"):
-            raise self._error(UnknownError, "decoration", f"there is none of id {id}")
+            raise self._error(UnknownError, "decoration", f"there is none with id {id}")
         return decoration_of(found)
 
     def decorations(self, start: int, end: int, owner: Optional[int] = None) -> List[Decoration]:
-        """The decorations that overlap or touch the units from `start` up to `end`: those of an owner, or all.
+        """Returns the decorations that overlap or touch the span from `start` up to `end`: those of an owner, or all.
 
-        They are sorted by their starts, then by their ends, then by their ids. RangeError as `value` has it.
+        They are sorted by start, then by end, then by id. RangeError if the span is invalid.
         """
         start, end = numbers(start=start, end=end)
         words = start, end, 0 if owner is None else number(owner, "owner"), owner is None
@@ -1209,17 +1206,17 @@ class Document:
     # Brackets
 
     def brackets(self, first: int, last: int, encoding: str = "utf-16") -> List[Bracket]:
-        """The brackets of the lines from `first` to `last`, both included, without those in comments and strings. An opening one
-        inside 300 others is text.
+        """Returns the brackets of the lines from `first` to `last`, both included, except those in comments and strings. An opening
+        bracket inside 300 others is text.
 
-        RangeError where one of the lines is not there, `first` is above `last`, or a bracket begins or ends inside a character, as one
-        that is half of a pair of surrogates may.
+        RangeError if a line is missing, `first` is above `last`, or a bracket begins or ends inside a character, as half of a surrogate
+        pair may.
         """
         rows = self.bracket_rows(first, last, encoding)
         return [Bracket(line, column, length, kind, level, STATES[state]) for line, column, length, kind, level, state in rows]
 
     def bracket_rows(self, first: int, last: int, encoding: str = "utf-16") -> Iterator[Tuple[int, ...]]:
-        """The same as plain numbers, each bracket as its line, column, length, kind, level and state: less work where they are many.
+        """Like `brackets`, but returns tuples of line, column, length, kind, level and state, which is faster for many brackets.
 
         >>> [*Document("f(x)").bracket_rows(1, 1)]
         [(1, 2, 1, 0, 0, 0), (1, 4, 1, 0, 0, 1)]
@@ -1228,15 +1225,15 @@ class Document:
         room = Room(min(max(ITEMS_AT_FIRST, 4 * (words[1] - words[0])), BRACKETS_AT_FIRST), BRACKET.size)
 
         def why() -> Optional[str]:
-            is_turned = f"its first line, {words[0]}, is behind its last, {words[1]}" if words[0] > words[1] else None
+            is_turned = f"its first line, {words[0]}, is after its last, {words[1]}" if words[0] > words[1] else None
             return self._why_no_line(words[0]) or self._why_no_line(words[1]) or is_turned or NO_LENGTH
 
         return BRACKET.iter_unpack(self._told(LIBRARY.tm_raw_brackets, room, *words, counts, what="brackets", why=why))
 
     def match(self, line: int, column: int, encoding: str = "utf-16") -> Optional[Partner]:
-        """The bracket that matches the one that starts at this position; None where none starts there, or it has no partner.
+        """Returns the bracket that matches the one at this position; None if no bracket starts there or it has no match.
 
-        RangeError where the position is invalid, or the partner begins or ends inside a character.
+        RangeError if the position is invalid, or the match begins or ends inside a character.
         """
         words, counts, partner = place_words((line, column)), encoding_number(encoding), CPartner()
         why = lambda: self._why_no_position(*words, encoding) or NO_LENGTH  # noqa: E731
@@ -1244,7 +1241,7 @@ class Document:
         return Partner(partner.line, partner.column, partner.length) if is_there else None
 
     def level(self, line: int, column: int, encoding: str = "utf-16") -> int:
-        """How many brackets are open after those that start before this position; RangeError where it is invalid."""
+        """Returns how many brackets are open after those that start before this position; RangeError if it is invalid."""
         words, counts = place_words((line, column)), encoding_number(encoding)
         why = partial(self._why_no_position, *words, encoding)
         return self._number_of(LIBRARY.tm_level, *words, counts, what="level", why=why) or 0
@@ -1252,7 +1249,7 @@ class Document:
     # Snapshots
 
     def snapshot(self) -> Snapshot:
-        """Keeps the text of now, to be read while the document changes; LimitError where 1,000 are open.
+        """Keeps the present text, to be read while the document changes; LimitError if 1,000 are open.
 
         >>> document = Document("before")
         >>> with document.snapshot() as snapshot:
@@ -1267,9 +1264,9 @@ class Document:
     # Mirrors
 
     def mirror(self) -> int:
-        """Begins a mirror, a second text that follows this one by events, with the text of now. Its version.
+        """Starts a mirror with the present text: a second text that follows this one by events. Returns its version.
 
-        It takes the place of the mirror that was there. The events that were sent stay.
+        It replaces the old mirror. The events that were sent are kept.
 
         >>> document = Document("ab")
         >>> document.mirror()
@@ -1282,15 +1279,15 @@ class Document:
         return self._number_of(LIBRARY.tm_mirror, what="mirror") or 0
 
     def send(self) -> Optional[Event]:
-        """Sends the last change as an event, and keeps it; None in version 1. LimitError where 65,536 were sent."""
+        """Sends the last change as an event, and keeps it. Returns None in version 1. LimitError if 65,536 were sent."""
         n, version = U64(), U64()
         is_sent = self._do(LIBRARY.tm_send, ctypes.byref(n), ctypes.byref(version), what="send")
         return Event(n.value, version.value) if is_sent else None
 
     def deliver(self, n: int) -> Optional[MirrorState]:
-        """Hands the event of this number to the mirror: what that is then, or None where it is past that event.
+        """Delivers the event with this number to the mirror. Returns the mirror's new state, or None if it is past that event.
 
-        UnknownError where there is no mirror or no such event; GapError where the mirror lacks events before that one.
+        UnknownError if there is no mirror or no such event; GapError if the mirror lacks earlier events.
         """
         n, told = number(n, "event", UnknownError), CFollowed()
         words = n, ctypes.byref(told), *map(self._session._fault_at, ("have", "need"))
@@ -1298,12 +1295,12 @@ class Document:
         return mirror_state_of(told) if is_taken else None
 
     def mirror_now(self) -> Optional[MirrorState]:
-        """What the mirror is now; None where there is none."""
+        """Returns the state of the mirror; None if there is none."""
         told = CFollowed()
         return mirror_state_of(told) if self._do(LIBRARY.tm_mirror_now, ctypes.byref(told), what="mirror") else None
 
     def mirrored(self, n: int) -> str:
-        """A line of the mirror, without its ending; UnknownError where there is no mirror, RangeError where it has no such line."""
+        """Returns a line of the mirror, without its ending; UnknownError if there is no mirror, RangeError if there is no such line."""
         n, room = number(n, "line"), Room(UNITS_AT_FIRST)
         what, why = f"line {n} of the mirror", partial(self._why_not_mirrored, "line")
         return decoded(self._told(LIBRARY.tm_raw_mirrored, room, n, what=what, why=why))
@@ -1312,20 +1309,20 @@ class Document:
 
     def _why_no_offset(self, offset: int) -> Optional[str]:
         if offset > len(self):
-            return f"offset {offset} is behind the end of the text, {len(self)}"
+            return f"offset {offset} is beyond the end of the text, {len(self)}"
         if self._do(LIBRARY.tm_position, offset, ENCODINGS["utf-16"], ctypes.byref(CPlace()), what="position"):
             return None
         is_ending = self.value(offset - 1, offset + 1) == "\r\n"
-        return f"offset {offset} stands " + ("between a CR and its LF" if is_ending else "inside a character")
+        return f"offset {offset} is " + ("between a CR and its LF" if is_ending else "inside a character")
 
     def _why_no_span(self, start: int, end: int) -> Optional[str]:
-        is_turned = f"its start, {start}, is behind its end, {end}" if start > end else None
+        is_turned = f"its start, {start}, is after its end, {end}" if start > end else None
         return self._why_no_offset(start) or self._why_no_offset(end) or is_turned
 
     def _why_no_line(self, n: int) -> Optional[str]:
         if n == 0:
             return "lines count from 1"
-        return f"line {n} is not there: the text has {self.line_count}" if n > self.line_count else None
+        return f"there is no line {n}: the text has {self.line_count}" if n > self.line_count else None
 
     def _why_no_position(self, line: int, column: int, encoding: str = "utf-16") -> Optional[str]:
         no_line = self._why_no_line(line)
@@ -1335,21 +1332,21 @@ class Document:
             return None
         last = self.position(self.offset(line, 1) + units(self.line(line)), encoding).column
         if column > last:
-            return f"column {column} is behind the end of line {line}, column {last} in {COUNTED[encoding]}"
-        return f"column {column} of line {line} stands inside a character, in {COUNTED[encoding]}"
+            return f"column {column} is beyond the end of line {line}, column {last} in {COUNTED[encoding]}"
+        return f"column {column} of line {line} is inside a character, in {COUNTED[encoding]}"
 
     def _why_not_mirrored(self, what: str) -> str:
         return f"there is no such {what}" if self.mirror_now() else "there is no mirror"
 
 
 def place_words(place: Place) -> Tuple[int, int]:
-    """The line and the column of a position, as a call takes them."""
+    """Returns the line and the column of a position, as a call takes them."""
     line, column = place
     return number(line, "line"), number(column, "column")
 
 
 def marks_of(pairs: Sequence[Pair], hiding: Hiding) -> List[Any]:
-    """The pairs of brackets and what hides them, as calls take them."""
+    """Returns the bracket pairs and the hiding, as calls take them."""
     lengths = array(CPair, [CPair(units(opening), units(closing)) for opening, closing in pairs])
     brackets = crossing("".join(opening + closing for opening, closing in pairs))
     opening, closing = hiding.block
@@ -1361,9 +1358,9 @@ def marks_of(pairs: Sequence[Pair], hiding: Hiding) -> List[Any]:
 
 
 class Snapshot:
-    """The text that a document had, which is read from its start. It is closed by `close`, or at the end of a `with`.
+    """The text that a document had, read from its start. It is closed by `close`, or at the end of a `with`.
 
-    A snapshot that is not closed is kept until its document is closed or opened anew. After that a read raises UnknownError.
+    A snapshot that is not closed is kept until its document is closed or opened anew. After a new open, a read raises UnknownError.
     """
 
     def __init__(self, document: Document, id_: int, most_left: int) -> None:
@@ -1373,9 +1370,8 @@ class Snapshot:
         self._is_open = True
 
     def read(self, most: Optional[int] = None) -> str:
-        """The next units, at most so many or all that are left; an empty text at the end. RangeError where `most` is below 2.
-
-        It is one fewer where the last one would be cut from a pair of surrogates.
+        """Returns the next units, at most `most` or all that are left, one fewer if that would split a surrogate pair; at the end an
+        empty text. RangeError if `most` is below 2.
         """
         if not self._is_open:
             raise self._error(ClosedError, "it is closed")
@@ -1384,7 +1380,7 @@ class Snapshot:
             if not self._is_of_now():
                 raise self._error(UnknownError, "its document was opened anew")
             room, what = Room(min(wanted, max(self._most_left, 2))), f"snapshot {self.id}"
-            why = "it is not open" if wanted >= 2 else f"at most {wanted} units are wanted, and a character may have two"
+            why = "it is not open" if wanted >= 2 else f"`most` is {wanted}, and must be at least 2: a character may have two units"
             told = self._document._told(LIBRARY.tm_raw_read, room, self.id, what=what, why=why)
             self._most_left -= len(told) // room.size
             return decoded(told)
@@ -1393,16 +1389,16 @@ class Snapshot:
         return self._document._error(error, f"snapshot {self.id}", cause)
 
     def _is_of_now(self) -> bool:
-        """Whether the document is still the one of which it was taken."""
+        """Returns whether the document was not opened anew since the snapshot."""
         return self._generation == self._document._session._generations[self._document._number]
 
     def __iter__(self) -> Iterator[str]:
-        """What is left of it, in parts."""
+        """Returns what was not read yet, in parts."""
         while part := self.read(PART_UNITS):
             yield part
 
     def close(self) -> None:
-        """Lets it go; nothing is done where that was done before, or its document is closed or was opened anew."""
+        """Closes the snapshot. Does nothing if it is closed already, or its document is closed or was opened anew."""
         with self._document._session._lock:
             is_there = self._is_open and self._is_of_now() and not self._document.closed
             self._is_open = False

@@ -1,9 +1,9 @@
 #!/usr/bin/env -S python3 -B
-"""Gives lines that are typed to the program, and tells on standard error why one is no command.
+"""Passes typed lines to the program, and says on standard error why one is invalid.
 
-tools/at_terminal.py PROGRAM     what `textmodel run` starts where standard input and output are a terminal
+tools/at_terminal.py PROGRAM     started by `textmodel run` if standard input and output are a terminal
 
-Each line goes to `PROGRAM run`, and its reply to standard output. It ends as the program ends, with its status or by its signal.
+Each line goes to `PROGRAM run`, and its reply to standard output. It ends with the program's status or by its signal.
 """
 import contextlib
 import importlib
@@ -12,7 +12,7 @@ import signal
 import subprocess
 import sys
 
-# Lines can be edited and called back where Python has this, and are not cut at 4,095 bytes then.
+# If Python has readline, lines can be edited and recalled, and are not cut at 4,095 bytes.
 with contextlib.suppress(ImportError):
     importlib.import_module("readline")
 
@@ -27,7 +27,7 @@ SIGNALS = (signal.SIGHUP, signal.SIGINT, signal.SIGQUIT, signal.SIGTERM)
 
 
 class NotRead(Exception):
-    """What is typed can be read no more, as where the terminal is gone."""
+    """Typed lines can't be read any more, as when the terminal is closed."""
 
 
 class Signalled(BaseException):

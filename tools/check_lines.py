@@ -1,12 +1,12 @@
 #!/usr/bin/env -S python3 -B
-"""Tells which lines of a script are no command, at which byte, and why.
+"""Prints which lines of a script are invalid, at which byte, and why.
 
-./textmodel check [FILE]     standard input where none is named, or `-`
+./textmodel check [FILE]     reads standard input by default, or for `-`
 
-A line of the answer is FILE:LINE:BYTE: WHY, both counted from 1, with `<stdin>` for standard input. These are exactly the
-lines to which `textmodel run` replies `! syntax`, and those too long, to which it replies `! limit`. The status is 0 where
-there is none, 1 where there is one, 2 where the words are wrong, 4 where the script could not be read, and 5 where the
-answer could not be written. docs/SCRIPT.md has the rules of a line.
+A line of the output is FILE:LINE:BYTE: WHY, both counted from 1, with `<stdin>` for standard input. These are exactly the
+lines to which `textmodel run` replies `! syntax`, and those too long, to which it replies `! limit`. The status is 0 if
+there is none, 1 if there is one, 2 if the command line is invalid, 4 if the script could not be read, and 5 if the output
+could not be written. docs/SCRIPT.md has the rules of a line.
 """
 import contextlib
 import difflib
@@ -40,7 +40,7 @@ WORD = re.compile(rb"[A-Za-z_]+")
 CONSTANTS: dict[bytes, tuple[str, Any]] = {b"true": ("flag", True), b"false": ("flag", False), b"null": ("null", None)}
 # What a value of each kind is called. A number is a whole one below 2^64; any other is a `fraction`.
 CALLED = {
-    "number": "a number", "fraction": "no whole number from 0 to 2^64 - 1", "text": "a text", "flag": "true or false",
+    "number": "a number", "fraction": "not a whole number from 0 to 2^64 - 1", "text": "a text", "flag": "true or false",
     "null": "null", "array": "an array", "object": "an object",
 }  # fmt: skip
 
@@ -55,7 +55,7 @@ class Node:
 
 
 class Fault(Exception):
-    """Why a line is no command, and at which byte, from 0."""
+    """Why a line is invalid, and at which byte, from 0."""
 
     def __init__(self, at: int, why: str) -> None:
         super().__init__(why)
@@ -84,7 +84,7 @@ class Reader:
         self.at = SPACE.match(self.line, self.at).end()
 
     def next_is(self, mark: bytes) -> bool:
-        """Passes the mark, and the blanks behind it, if it stands here."""
+        """Skips the mark and the blanks after it, if it comes next."""
         if not self.line.startswith(mark, self.at):
             return False
         self.at += len(mark)
@@ -93,10 +93,10 @@ class Reader:
 
     def expect(self, mark: bytes, wanted: str) -> None:
         if not self.next_is(mark):
-            self.fail(f"not JSON: {wanted} is wanted, and here is {self.here()}")
+            self.fail(f"not JSON: expected {wanted}, found {self.here()}")
 
     def here(self) -> str:
-        """What stands at this byte, to be shown."""
+        """The text at this byte, for a message."""
         if self.at >= len(self.line):
             return "the end of the line"
         if word := WORD.match(self.line, self.at):
@@ -126,7 +126,7 @@ class Reader:
         return found
 
     def members(self) -> dict[str, tuple[int, Node]]:
-        """The fields: where the name of each starts, and its value. Of one that stands twice the last one counts."""
+        """The fields: where the name of each starts, and its value. If one is repeated, the last one counts."""
         self.next_is(b"{")
         found: dict[str, tuple[int, Node]] = {}
         if self.next_is(b"}"):
@@ -134,14 +134,14 @@ class Reader:
         while True:
             at = self.at
             if self.line[at : at + 1] != b'"':
-                self.fail(f"not JSON: the name of a field in quotes is wanted, and here is {self.here()}")
+                self.fail(f"not JSON: expected the name of a field in quotes, found {self.here()}")
             name = self.string()
             self.space()
-            self.expect(b":", f"a colon behind the field's name `{shown(name)}`")
+            self.expect(b":", f"a colon after the field's name `{shown(name)}`")
             found[name] = at, self.value(f"a value for `{shown(name)}`")
             if self.next_is(b"}"):
                 return found
-            self.expect(b",", "a comma, or `}` at the end of the object,")
+            self.expect(b",", "a comma, or `}` at the end of the object")
 
     def items(self) -> list[Node]:
         self.next_is(b"[")
@@ -152,7 +152,7 @@ class Reader:
             found.append(self.value("a value"))
             if self.next_is(b"]"):
                 return found
-            self.expect(b",", "a comma, or `]` at the end of the array,")
+            self.expect(b",", "a comma, or `]` at the end of the array")
 
     def string(self) -> str:
         start = self.at
@@ -160,7 +160,7 @@ class Reader:
         while True:
             self.at = PLAIN.match(self.line, self.at).end()
             if self.at == len(self.line):
-                raise Fault(start, "not JSON: a text that is not closed before the end of the line")
+                raise Fault(start, "not JSON: a text is not closed before the end of the line")
             if self.line[self.at] == ord('"'):
                 self.at += 1
                 return json.loads(self.line[start : self.at])
@@ -174,11 +174,11 @@ class Reader:
         code = int(found[1] or b"0", 16)
         spelled = f"the escape `{found[0].decode()}`"
         if 0xDC00 <= code < 0xE000:
-            self.fail(f"{spelled} is the second half of a pair of surrogates, without the first")
+            self.fail(f"{spelled} is the second half of a surrogate pair, without the first")
         if 0xD800 <= code < 0xDC00:
             second = ESCAPE.match(self.line, found.end())
             if not second or not 0xDC00 <= int(second[1] or b"0", 16) < 0xE000:
-                self.fail(f"{spelled} is the first half of a pair of surrogates, without the second")
+                self.fail(f"{spelled} is the first half of a surrogate pair, without the second")
             found = second
         self.at = found.end()
 
@@ -203,11 +203,11 @@ class Reader:
                 node = Node(kind, value, self.at)
                 self.at = found.end()
                 return node
-        self.fail(f"not JSON: {wanted} is wanted, and here is {self.here()}")
+        self.fail(f"not JSON: expected {wanted}, found {self.here()}")
 
 
 def shown(text: str) -> str:
-    """The text as it may be put on a terminal, cut where it is long."""
+    """The text as it may be shown on a terminal, cut if it is long."""
     part = text if len(text) <= SHOWN else text[:SHOWN] + ".."
     return "".join(it if it.isprintable() else it.encode("unicode_escape", "surrogatepass").decode() for it in part)
 
@@ -221,15 +221,15 @@ def byte_name(rest: bytes) -> str:
 
 def no_escape(line: bytes, at: int) -> str:
     if line[at] == ord("\\"):
-        return f"no escape of JSON: `{shown(line[at : at + 6].decode('utf-8', 'ignore'))}`"
-    return f"a raw control character 0x{line[at]:02x} in a text: it is written as an escape, `\\u{line[at]:04x}`"
+        return f"invalid JSON escape: `{shown(line[at : at + 6].decode('utf-8', 'ignore'))}`"
+    return f"a raw control character 0x{line[at]:02x} in a text: write it as the escape `\\u{line[at]:04x}`"
 
 
 def text_behind(node: Node, line: bytes, at: int) -> str:
-    """What is wrong with what stands behind the value."""
+    """The fault of the text after the value."""
     behind = f"text after the {'object' if node.kind == 'object' else 'value'}"
     if b"\r" in line[len(line[:at].rstrip(BLANKS)) : at]:
-        return f"{behind}: CR alone ends no line of a script, LF does"
+        return f"{behind}: a line of a script ends with LF, not with CR alone"
     return f"{behind}: {byte_name(line[at:])}"
 
 
@@ -260,7 +260,7 @@ Check = Callable[[Node, str], None]
 
 
 def wrong(node: Node, name: str, wanted: str) -> NoReturn:
-    raise Fault(node.at, f"{name} is {CALLED[node.kind]}, and {wanted} is wanted")
+    raise Fault(node.at, f"{name} is {CALLED[node.kind]}; expected {wanted}")
 
 
 def of_kind(kind: str) -> Check:
@@ -275,26 +275,26 @@ number, text, flag = of_kind("number"), of_kind("text"), of_kind("flag")
 
 
 def sought(node: Node, name: str) -> None:
-    """A text that is looked for."""
+    """A text to search for."""
     text(node, name)
     if not node.value:
-        raise Fault(node.at, f"{name} is empty, and a text of one unit or more is wanted")
+        raise Fault(node.at, f"{name} is empty; expected a text of one unit or more")
 
 
 def several(count: int, wanted: str) -> Check:
     """An array of so many numbers."""
     def check(node: Node, name: str) -> None:
         if node.kind != "array":
-            wrong(node, name, f"an array, {wanted},")
+            wrong(node, name, f"an array of {wanted}")
         if len(node.value) != count:
-            raise Fault(node.at, f"{name} is an array of {len(node.value)}, and {wanted} is wanted")
+            raise Fault(node.at, f"{name} is an array of {len(node.value)}; expected {wanted}")
         check_items(node, name, number)
 
     return check
 
 
-span = several(2, "one of two numbers (start, end)")
-positions = several(4, "one of four numbers (line and column of the start, then of the end)")
+span = several(2, "two numbers (start, end)")
+positions = several(4, "four numbers (line and column of the start, then of the end)")
 
 
 def check_items(node: Node, name: str, check: Check) -> None:
@@ -307,7 +307,7 @@ def list_of(check: Check, wanted: str, least: int = 0) -> Check:
         if node.kind != "array":
             wrong(node, name, wanted)
         if len(node.value) < least:
-            raise Fault(node.at, f"{name} {'has one item' if node.value else 'is empty'}, and {wanted} is wanted")
+            raise Fault(node.at, f"{name} {'has one item' if node.value else 'is empty'}; expected {wanted}")
         check_items(node, name, check)
 
     return check_list
@@ -342,9 +342,9 @@ def op(node: Node, name: str) -> None:
         wrong(node, name, "an object")
     places = [place for place in OPS if place in node.value]
     if len(places) == 2:
-        raise Fault(node.value["range"][0], f"{name} has both `at` and `range`, and one is wanted")
+        raise Fault(node.value["range"][0], f"{name} has both `at` and `range`; expected one")
     if not places and not node.value.keys() - {"text", "force"}:
-        raise Fault(node.at, f"{name} has neither `at` nor `range`, and one is wanted")
+        raise Fault(node.at, f"{name} has neither `at` nor `range`; expected one")
     OPS[places[0] if places else "at"].check(node, name)
 
 
@@ -369,7 +369,7 @@ def pair_of(check: Check) -> Check:
     """An array of two such texts."""
     def check_pair(node: Node, name: str) -> None:
         if node.kind != "array" or len(node.value) != 2:
-            raise Fault(node.at, f"{name} is no array of two texts, an opening and a closing one")
+            raise Fault(node.at, f"{name} is not an array of two texts, an opening and a closing one")
         check_items(node, name, check)
 
     return check_pair
@@ -384,9 +384,9 @@ def in_line(called: str) -> Check:
     def check(node: Node, name: str) -> None:
         text(node, name)
         if not 1 <= (units := units_of(node)) <= MOST_BRACKET_UNITS:
-            raise Fault(node.at, f"{name} has {units} units, and a {called} has 1 to {MOST_BRACKET_UNITS}")
+            raise Fault(node.at, f"{name} has {units} units; a {called} has 1 to {MOST_BRACKET_UNITS}")
         if "\r" in node.value or "\n" in node.value:
-            raise Fault(node.at, f"{name} has a CR or LF, and no {called} has")
+            raise Fault(node.at, f"{name} has a CR or LF; a {called} must not")
 
     return check
 
@@ -397,9 +397,9 @@ bracket, mark = in_line("bracket"), in_line("mark")
 def quote(node: Node, name: str) -> None:
     text(node, name)
     if (units := units_of(node)) != 1:
-        raise Fault(node.at, f"{name} has {units} units, and a quote has 1")
+        raise Fault(node.at, f"{name} has {units} units; a quote has 1")
     if node.value in "\r\n\\":
-        raise Fault(node.at, f"{name} is a CR, an LF or a backslash, and no quote is")
+        raise Fault(node.at, f"{name} is a CR, an LF or a backslash; a quote must not be")
 
 
 def check_differ(nodes: Iterable[Node], name: str) -> None:
@@ -413,7 +413,7 @@ def check_differ(nodes: Iterable[Node], name: str) -> None:
 def quotes(node: Node, name: str) -> None:
     list_of(quote, "an array of quotes")(node, name)
     if len(node.value) > MOST_QUOTES:
-        raise Fault(node.at, f"{name} has {len(node.value)} quotes, and at most {MOST_QUOTES} are wanted")
+        raise Fault(node.at, f"{name} has {len(node.value)} quotes; expected at most {MOST_QUOTES}")
     check_differ(node.value, name)
 
 
@@ -432,13 +432,13 @@ def kind(node: Node, name: str) -> None:
     if node.kind != "text":
         wrong(node, name, wanted)
     if node.value not in KINDS:
-        raise Fault(node.at, f"{name} is `{shown(node.value)}`, and {wanted} is wanted")
+        raise Fault(node.at, f"{name} is `{shown(node.value)}`; expected {wanted}")
 
 
 def pairs(node: Node, name: str) -> None:
     list_of(pair_of(bracket), "an array of pairs")(node, name)
     if not 1 <= len(node.value) <= MOST_PAIRS:
-        raise Fault(node.at, f"{name} has {len(node.value)} pairs, and 1 to {MOST_PAIRS} are wanted")
+        raise Fault(node.at, f"{name} has {len(node.value)} pairs; expected 1 to {MOST_PAIRS}")
     check_differ((half for both in node.value for half in both.value), name)
 
 
@@ -490,17 +490,17 @@ COMMANDS: dict[str, Fields] = {
 
 
 def nearest(name: str) -> str:
-    """The known command that is spelled most like the name, to be shown."""
+    """The known command most like the name, for a message."""
     found = difflib.get_close_matches(name.lower(), COMMANDS, 1)
     return f"; the nearest is `{found[0]}`" if found else ""
 
 
 def check_command(node: Node) -> None:
-    """Refuses what is no command."""
+    """Refuses an invalid command."""
     if node.kind != "object":
-        raise Fault(node.at, f"the line is {CALLED[node.kind]}, and a JSON object is wanted")
+        raise Fault(node.at, f"the line is {CALLED[node.kind]}; expected a JSON object")
     if "cmd" not in node.value:
-        raise Fault(node.at, "field `cmd` is missing, which names the command")
+        raise Fault(node.at, "field `cmd` is missing: it names the command")
     _, command = node.value.pop("cmd")
     if command.kind != "text":
         wrong(command, "field `cmd`", "the name of a command in quotes")
@@ -513,9 +513,9 @@ def check_command(node: Node) -> None:
 
 
 def fault_of(line: bytes) -> Fault | None:
-    """Why the line, without its LF, is no command; None where it is one, or is empty."""
+    """Returns why the line, without its LF, is invalid; None if it is valid or empty."""
     if len(line) > MOST_BYTES:
-        return Fault(MOST_BYTES, f"too long: the line has {len(line):,} bytes, and may have {MOST_BYTES:,} (`! limit`)")
+        return Fault(MOST_BYTES, f"too long: the line has {len(line):,} bytes; the limit is {MOST_BYTES:,} (`! limit`)")
     if not line.strip(BLANKS):
         return None
     if fault := encoding_fault(line):
@@ -528,14 +528,14 @@ def fault_of(line: bytes) -> Fault | None:
 
 
 def faults_in(lines: Iterable[bytes]) -> Iterator[tuple[int, Fault]]:
-    """The lines that are no commands, by their numbers."""
+    """Returns the invalid lines, by their numbers."""
     for line_number, line in enumerate(lines, 1):
         if fault := fault_of(line.removesuffix(b"\n")):
             yield line_number, fault
 
 
 def tell_of(name: str, lines: Iterable[bytes]) -> int:
-    """Prints where and why lines are no commands, and returns how many are not."""
+    """Prints where and why lines are invalid, and returns their number."""
     found = 0
     for line_number, fault in faults_in(lines):
         print(f"{name}:{line_number}:{fault.at + 1}: {fault.why}")

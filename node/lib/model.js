@@ -63,7 +63,7 @@ class Session {
   }
 }
 
-/** Whether a refusal of a list may tell the item that was at fault. */
+/** Whether a refusal with this status may name the invalid item of a list. */
 function tellsItem(status) {
   return status === STATUS.UNKNOWN || status === STATUS.RANGE || status === STATUS.OVERLAP;
 }

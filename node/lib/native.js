@@ -21,9 +21,9 @@ function spelled(version) {
 
 const libraryVersion = spelled(native.version);
 if (Math.floor(native.version / 10000) !== MAJOR)
-  throw new Error(`textmodel: the library is of version ${libraryVersion}, and one of version ${MAJOR} is wanted`);
+  throw new Error(`textmodel: the library has version ${libraryVersion}, and major version ${MAJOR} is needed`);
 
-// The fields of a fault that its status tells, which stand in `out`. A field of -1 tells nothing.
+// The fields of a fault that its status sets, in `out`. A field of -1 is not set.
 const TOLD = {
   [STATUS.ENCODING]: { index: 0 },
   [STATUS.JOINT]: { document: 1 },
@@ -54,13 +54,13 @@ function refusal(status, what, table = TOLD[status] ?? {}) {
   return new TextModelError(STATUSES[status] ?? 'UNKNOWN', `${what}: ${native.messages[status]}${details.join('')}`, fields);
 }
 
-/** Throws where a call was refused; else whether there was anything to do or to tell. */
+/** Throws if a call was refused; else returns whether it did or found something. */
 function done(status, what) {
   if (status > STATUS.NOTHING) throw refusal(status, what);
   return status === STATUS.OK;
 }
 
-/** What a call answered, which is a status where it was refused. */
+/** Returns the result of a call; throws if it is the status of a refusal. */
 function told(answer, what) {
   if (typeof answer === 'number') throw refusal(answer, what);
   return answer;

@@ -12,7 +12,7 @@ class Snapshot {
   #left;
   #isOver = false;
 
-  /** `read` reads so many units of it, and `close` closes it, also where it is closed. */
+  /** `read` reads the given number of units, and `close` closes the snapshot, if it is open. */
   constructor(read, close, length) {
     this.#read = read;
     this.#close = close;

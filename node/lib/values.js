@@ -32,10 +32,10 @@ function ownBytes(given) {
   return given?.buffer instanceof SharedArrayBuffer ? Uint8Array.from(given) : given;
 }
 
-/** A number of which the library is told only where it is one that can cross. */
+/** Returns the number if the library can take it, an integer from 0 on; else throws. */
 function natural(value, what) {
   number(value, what);
-  if (!Number.isSafeInteger(value) || value < 0) throw new TextModelError('RANGE', `${what}: ${value} is no integer from 0 on`);
+  if (!Number.isSafeInteger(value) || value < 0) throw new TextModelError('RANGE', `${what}: ${value} is not a safe integer from 0 on`);
   return value;
 }
 
@@ -58,7 +58,7 @@ function marksOf(hiding) {
 function pairsOf(brackets) {
   if (brackets === undefined || brackets === null) return { lengths: new Float64Array(0), texts: '' };
   const pairs = [...brackets];
-  if (pairs.length === 0) throw new TextModelError('RANGE', 'open: there are no brackets; leave them out for (), [] and {}');
+  if (pairs.length === 0) throw new TextModelError('RANGE', 'open: the list of brackets is empty; leave it out for (), [] and {}');
   const texts = pairs.flatMap(([opening, closing]) => [text(opening, 'a bracket'), text(closing, 'a bracket')]);
   return { lengths: Float64Array.from(texts, (it) => it.length), texts: texts.join('') };
 }

@@ -1,8 +1,7 @@
-/* What the sources of the addon share.
+/* Declarations shared by the sources of the addon.
  *
- * The addon is thin. A call takes numbers and strings, and answers a status, or a string or numbers where it is one of text
- * or of a list. What else it tells it writes into `out`, an array of numbers that JavaScript reads. lib/ makes objects and
- * errors of these. */
+ * The addon is thin. A call takes numbers and strings, and returns a status, or for a text or a list a string or numbers. It
+ * writes other results into `out`, an array of numbers that JavaScript reads. lib/ makes objects and errors of these. */
 #ifndef ADDON_H
 #define ADDON_H
 
@@ -17,8 +16,8 @@ typedef struct addon {
   napi_ref out_reference;
 } addon;
 
-/* The session of an object. `held` are the bytes that each document was given, of which the garbage collector is told
- * `reported`, and `unreported` later. */
+/* The session of an object. `held` has the bytes given to each document. `reported` of them are reported to the garbage
+ * collector, and `unreported` will be. */
 typedef struct session {
   tm_session model;
   addon *addon;
@@ -55,7 +54,7 @@ typedef struct room {
   uint64_t few[FEW_NUMBERS];
 } room;
 
-/* What is asked of a document whose answer needs room. */
+/* A question about a document whose result needs a buffer. */
 typedef struct question {
   tm_session *model;
   uint64_t doc;
@@ -94,27 +93,27 @@ void take_text(call *c, size_t at, text *t);
 void take_text_or_bytes(call *c, size_t at, text *t);
 void drop_text(text *t);
 
-/* Asks, with room for `expected` elements of `size` bytes or with more where that is too little. */
+/* Makes the call with a buffer for `expected` elements of `size` bytes, or with a longer one if that is too short. */
 uint32_t ask(room *r, asks *asked, const question *q, size_t size, uint64_t expected);
 void drop_room(room *r);
 
-/* What is handed to JavaScript. A status that is not TM_OK is told with the fault, in `out`. */
+/* Results for JavaScript. For a status other than TM_OK the fault is in `out`. */
 napi_value tell(call *c, uint32_t status);
 napi_value failed(call *c);
 napi_value tell_numbers(call *c, uint32_t status, size_t count, const uint64_t *numbers);
 napi_value tell_string(call *c, uint32_t status, const room *r);
 
-/* A new Float64Array, and where its numbers are to be put. Null where it could not be made. */
+/* Makes a Float64Array, and returns the address of its numbers, or null if it could not be made. */
 double *new_numbers(call *c, size_t count, napi_value *array);
 
 /* ---- session.c */
 
 napi_value new_session(napi_env env, napi_callback_info info);
 
-/* Notes that a document was given so many units more. */
+/* Notes that a document was given `units` more units. */
 void hold(call *c, uint64_t doc, int64_t units);
 
-/* ---- The methods of a session, by file. Each has the number of a document as its first argument, but for those of a session. */
+/* ---- The methods of a session, by file. The first argument is the number of a document, except in those of a session. */
 
 #define METHODS_OF_SESSION(M) M(make) M(close) M(open)
 #define METHODS_OF_EDITS(M) \

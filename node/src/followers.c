@@ -14,7 +14,7 @@ static napi_value number_of_new(napi_env env, napi_callback_info info, uint32_t 
 /* snapshot(doc) -> out: id */
 napi_value method_snapshot(napi_env env, napi_callback_info info) { return number_of_new(env, info, tm_snapshot); }
 
-/* As much as there is room for, which is what a snapshot reads: it never answers that there is too little. */
+/* A snapshot reads as many units as fit, and never returns TM_SHORT. */
 static uint32_t asked_snapshot(const question *q, void *out, size_t room, uint64_t *count) {
   return tm_read(q->model, q->doc, q->first, out, room < q->last ? room : q->last, count);
 }

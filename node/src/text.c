@@ -45,7 +45,7 @@ static uint32_t asked_line(const question *q, void *out, size_t room, uint64_t *
   return tm_line(q->model, q->doc, q->first, out, room, count);
 }
 
-/* How many units a span has at most, where it may be none of the text. */
+/* The greatest length of a span in units; the span may be invalid. */
 static uint64_t units_in(const question *q) {
   uint64_t length = 0, end = q->last;
   if (tm_len(q->model, q->doc, &length) == TM_OK && end > length) end = length;

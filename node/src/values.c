@@ -100,7 +100,7 @@ static void no_text(text *t) {
   t->length = 0;
 }
 
-/* A string that fills all but the zero behind it may be longer. */
+/* If a string fills the buffer up to the final zero, it may be longer. */
 void take_text(call *c, size_t at, text *t) {
   no_text(t);
   if (!c->ok) return;
@@ -146,7 +146,7 @@ void drop_room(room *r) { free(r->many); }
 
 /* ---- Answers */
 
-/* Numbers that are not safe stand for themselves roughly, and that of no index as -1. */
+/* Unsafe integers are rounded, and TM_NO_INDEX becomes -1. */
 static double told(uint64_t n) { return n == TM_NO_INDEX ? -1 : (double)n; }
 
 static napi_value status_value(call *c, uint32_t status) {

@@ -8,21 +8,21 @@ use std::iter::FusedIterator;
 use std::ops::{Bound, RangeBounds};
 use std::vec::IntoIter;
 
-/// How many brackets a list has room for at first.
+/// The first size of the buffer for a list of brackets.
 const LIST: usize = 64;
-/// Of how many lines an iterator asks the brackets at once.
+/// The number of lines whose brackets an iterator reads at once.
 const LINES: usize = 512;
 
-/// Whether a bracket is one of a pair.
+/// The state of a bracket.
 #[derive(Clone, Copy, Debug, PartialEq, Eq, Hash)]
 pub enum BracketState {
-    /// An opening one that is closed later.
+    /// An opening bracket that is closed later.
     Opening,
-    /// A closing one that closes it.
+    /// The closing bracket of a pair.
     Closing,
-    /// An opening one that is never closed.
+    /// An opening bracket that is never closed.
     Unclosed,
-    /// A closing one that closes none.
+    /// A closing bracket without an opening one.
     Unexpected,
 }
 
@@ -37,16 +37,16 @@ impl BracketState {
     }
 }
 
-/// A bracket. What its column and length count is the encoding of the call that told it.
+/// A bracket. Its column and length have the encoding that the call was given.
 #[derive(Clone, Copy, Debug, PartialEq, Eq, Hash)]
 pub struct Bracket {
-    /// Where it begins.
+    /// Its position.
     pub position: Position,
-    /// How long it is.
+    /// Its length.
     pub length: usize,
-    /// Its pair, by its place among those of the document, from 0.
+    /// The index of its pair among those of the document, from 0.
     pub kind: usize,
-    /// How many brackets are open around it.
+    /// The number of brackets open around it.
     pub level: usize,
     /// Whether it is one of a pair.
     pub state: BracketState,
@@ -67,15 +67,15 @@ impl Bracket {
 /// The other bracket of a pair.
 #[derive(Clone, Copy, Debug, PartialEq, Eq, Hash)]
 pub struct Partner {
-    /// Where it begins.
+    /// Its position.
     pub position: Position,
-    /// How long it is.
+    /// Its length.
     pub length: usize,
 }
 
 impl Document<'_> {
-    /// The brackets of these lines, from 1, in the order of the text; of all lines with `..`. `encoding` says what
-    /// their columns and lengths count.
+    /// The brackets of these lines, from 1, in the order of the text; of all lines with `..`. `encoding` is the unit of
+    /// their columns and lengths.
     ///
     /// ```
     /// # use textmodel::{BracketState, Encoding, Error, Session};
@@ -91,9 +91,9 @@ impl Document<'_> {
     /// # }
     /// ```
     ///
-    /// It asks for some hundred lines at a time. The first item is [`Error::Range`] where one of the lines is not there
-    /// or there is none between the two ends; one is, too, where a bracket begins or ends inside a character, as half
-    /// of a pair of surrogates may.
+    /// The iterator reads some hundred lines at a time. The first item is [`Error::Range`] if a line is missing, or the
+    /// range is empty. An item is, too, if a bracket begins or ends inside a character, as half of a surrogate pair
+    /// may.
     pub fn brackets(&self, lines: impl RangeBounds<usize>, encoding: Encoding) -> Brackets<'_> {
         let count = self.len_lines();
         let next = match lines.start_bound() {
@@ -112,23 +112,23 @@ impl Document<'_> {
 
     fn brackets_of(&self, first: usize, last: usize, encoding: Encoding) -> Result<Vec<Bracket>, Error> {
         let (raw, doc, first, last) = (self.raw(), self.doc(), first as u64, last as u64);
-        // SAFETY: as `Session::raw` tells; the closure gets a place, how much room it has, and another for the count.
+        // SAFETY: see `Session::raw`; the closure gets a buffer, its size and an address for the count.
         let found = self.list(LIST, |out, room, count| unsafe {
             ffi::tm_raw_brackets(raw, doc, first, last, encoding as u32, out, room, count)
         })?;
         Ok(found.iter().map(Bracket::of).collect())
     }
 
-    /// The bracket that matches the one that begins at this position; None where none begins there, or it has no
-    /// partner. `encoding` says what columns and lengths count.
+    /// Returns the bracket that matches the one at this position; None if no bracket starts there, or it has no match.
+    /// `encoding` is the unit of columns and lengths.
     ///
     /// # Errors
-    /// [`Error::Range`] where the position is none of the text, or the partner begins or ends inside a character.
-    /// [`Error::Memory`], but not with [`Encoding::Utf16`] where such a question was asked since the last change.
+    /// [`Error::Range`] if the position is invalid, or the match begins or ends inside a character. [`Error::Memory`],
+    /// but never with [`Encoding::Utf16`] if such a question was asked since the last change.
     pub fn partner(&self, position: Position, encoding: Encoding) -> Result<Option<Partner>, Error> {
         let (line, column) = (position.line as u64, position.column as u64);
         let mut found = ffi::Partner::default();
-        // SAFETY: as `Session::raw` tells; `found` is a place of its own.
+        // SAFETY: see `Session::raw`; `found` is a separate address.
         let status = unsafe { ffi::tm_match(self.raw(), self.doc(), line, column, encoding as u32, &mut found) };
         Ok(self.was_there(status)?.then(|| Partner {
             position: Position::new(found.line as usize, found.column as usize),
@@ -136,21 +136,22 @@ impl Document<'_> {
         }))
     }
 
-    /// How many brackets are open after those that begin before this position. `encoding` says what its column counts.
+    /// Returns how many brackets are open after those that start before this position. `encoding` is the unit of its
+    /// column.
     ///
     /// # Errors
-    /// [`Error::Range`] where the position is none of the text. [`Error::Memory`], but not with [`Encoding::Utf16`]
-    /// where such a question was asked since the last change.
+    /// [`Error::Range`] if the position is invalid. [`Error::Memory`], but never with [`Encoding::Utf16`] if such a
+    /// question was asked since the last change.
     pub fn level(&self, position: Position, encoding: Encoding) -> Result<usize, Error> {
         let (line, column) = (position.line as u64, position.column as u64);
         let mut level = 0;
-        // SAFETY: as `Session::raw` tells; `level` is a place of its own.
+        // SAFETY: see `Session::raw`; `level` is a separate address.
         let status = unsafe { ffi::tm_level(self.raw(), self.doc(), line, column, encoding as u32, &mut level) };
         self.done(status).map(|()| level as usize)
     }
 }
 
-/// The brackets of some lines, which [`Document::brackets`] makes. An error ends it.
+/// The iterator of [`Document::brackets`]. An error ends it.
 #[must_use = "an iterator asks for nothing until it is used"]
 #[derive(Debug)]
 pub struct Brackets<'d> {
@@ -163,7 +164,7 @@ pub struct Brackets<'d> {
 }
 
 impl Brackets<'_> {
-    /// Asks for the brackets of the next lines. Where that is refused, none are left.
+    /// Reads the brackets of the next lines. If that is refused, none are left.
     fn ask(&mut self) -> Result<(), Error> {
         let (first, last) = (self.next, self.last.min(self.next.saturating_add(LINES - 1)));
         self.next = usize::MAX;

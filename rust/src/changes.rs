@@ -5,22 +5,21 @@ use crate::error::Error;
 use crate::ffi;
 use std::ops::Range;
 
-/// How much room the text of a change gets at first, in bytes or units.
+/// The first size of the buffer for the text of a change, in bytes or units.
 const TEXT: usize = 256;
 
-/// One of the edits that the last change was made of: the text took the place of the span.
+/// An edit of the last change: the text replaced the span.
 #[derive(Clone, Debug, PartialEq, Eq)]
 pub struct Change<T = String> {
-    /// The span, in the text that the edits before this one had left.
+    /// The span, in the text after the edits before this one.
     pub span: Range<usize>,
-    /// What took its place.
+    /// The new text.
     pub text: T,
 }
 
 impl Document<'_> {
-    /// The edits that the last change was made of, be it an edit, an undo, a redo, or other line endings. Carried out
-    /// one after another, they lead from the text before that change to the text of now. In version 1 there are
-    /// none. A lone surrogate becomes U+FFFD.
+    /// Returns the edits of the last change, which is an edit, an undo, a redo or new line endings. Applied in order,
+    /// they turn the text before it into the present one. In version 1 there are none. A lone surrogate becomes U+FFFD.
     ///
     /// ```
     /// # use textmodel::{Edit, Session};
@@ -42,7 +41,7 @@ impl Document<'_> {
     /// [`Error::Memory`].
     pub fn changes(&self) -> Result<Vec<Change>, Error> {
         self.each_change(|| {
-            // SAFETY: as `Session::raw` tells; the closure gets a place, how much room it has, and another for the
+            // SAFETY: see `Session::raw`; the closure gets a buffer, its size and an address for the
             // count.
             self.string(TEXT, |out, room, count| unsafe { ffi::tm_raw_change_text_utf8(self.raw(), out, room, count) })
         })
@@ -59,8 +58,8 @@ impl Document<'_> {
         })
     }
 
-    /// Asks for the edits up to the last one, so that the library begins with the first one again at the next call,
-    /// also where a text cannot be had.
+    /// Reads the edits up to the last one, even if there is no memory for a text, so that the library starts with the
+    /// first one again at the next call.
     fn each_change<T>(&self, text: impl Fn() -> Result<T, Error>) -> Result<Vec<Change<T>>, Error> {
         let (mut changes, mut failed) = (Vec::new(), None);
         while let Some(span) = self.next_change()? {
@@ -74,7 +73,7 @@ impl Document<'_> {
 
     fn next_change(&self) -> Result<Option<Range<usize>>, Error> {
         let mut told = ffi::Change::default();
-        // SAFETY: as `Session::raw` tells; `told` is a place of its own.
+        // SAFETY: see `Session::raw`; `told` is a separate address.
         let status = unsafe { ffi::tm_next_change(self.raw(), self.doc(), &mut told) };
         let span = told.start as usize..told.end as usize;
         Ok(self.was_there(status)?.then_some(span))

@@ -5,20 +5,20 @@ use crate::error::{At, Error};
 use crate::ffi;
 use std::ops::{Range, RangeBounds};
 
-/// How many decorations a list has room for at first.
+/// The first size of the buffer for a list of decorations.
 const LIST: usize = 64;
 
-/// At which of its edges a decoration grows by the text that is typed there.
+/// The ends of a decoration at which typed text makes it grow.
 #[derive(Clone, Copy, Debug, Default, PartialEq, Eq, Hash)]
 pub enum Stick {
-    /// At both.
+    /// Both.
     #[default]
     Both = 0,
-    /// At none.
+    /// Neither.
     Neither = 1,
-    /// At its start only.
+    /// Its start only.
     Start = 2,
-    /// At its end only.
+    /// Its end only.
     End = 3,
 }
 
@@ -33,24 +33,24 @@ impl Stick {
     }
 }
 
-/// A decoration that is to be added.
+/// A decoration to add.
 #[derive(Clone, Debug, PartialEq, Eq)]
 pub struct NewDecoration {
-    /// The span of it, between two places of the text. It may be empty.
+    /// Its span, which may be empty.
     pub span: Range<usize>,
-    /// At which of its edges it grows.
+    /// The ends at which it grows.
     pub stick: Stick,
-    /// Whether it becomes empty where all of its text is replaced.
+    /// Whether it becomes empty if an edit replaces all of its text.
     pub collapse: bool,
 }
 
 impl NewDecoration {
-    /// One that grows at both edges, and does not collapse.
+    /// Makes a decoration that grows at both ends and does not collapse.
     pub fn new(span: Range<usize>) -> NewDecoration {
         NewDecoration { span, stick: Stick::Both, collapse: false }
     }
 
-    /// One that grows at these edges.
+    /// Sets the ends at which it grows.
     #[must_use]
     pub fn stick(self, stick: Stick) -> NewDecoration {
         NewDecoration { stick, ..self }
@@ -66,18 +66,18 @@ impl NewDecoration {
     }
 }
 
-/// A decoration as it is now.
+/// A decoration.
 #[derive(Clone, Debug, PartialEq, Eq)]
 pub struct Decoration {
     /// Its id, from 1, which no other decoration of the document gets.
     pub id: u64,
     /// Its owner, a number of the caller's choice.
     pub owner: u64,
-    /// Its span. An edge that stood in a replaced text may stand inside a character now.
+    /// Its span. After an edit around it, an end may be inside a character.
     pub span: Range<usize>,
-    /// At which of its edges it grows.
+    /// The ends at which it grows.
     pub stick: Stick,
-    /// Whether it becomes empty where all of its text is replaced.
+    /// Whether it becomes empty if an edit replaces all of its text.
     pub collapse: bool,
 }
 
@@ -94,8 +94,8 @@ impl Decoration {
 }
 
 impl Document<'_> {
-    /// Removes decorations of an owner by their ids, and adds new ones, all or none. Tells the ids of the new ones, in
-    /// their order. This makes no version and no step of undo.
+    /// Removes decorations of an owner by their ids, and adds new ones, all or none. Returns the ids of the new ones, in
+    /// order. The version and the undo steps are unchanged.
     ///
     /// ```
     /// # use textmodel::{NewDecoration, Session, Stick};
@@ -112,13 +112,12 @@ impl Document<'_> {
     /// ```
     ///
     /// # Errors
-    /// [`Error::Unknown`] where one that is to be removed is not there, is of another owner, or is named twice;
-    /// [`Error::Range`] where a span is none between two places of the text. These two tell the place in `remove`
-    /// or in `add`. [`Error::Limit`].
+    /// [`Error::Unknown`] if one to be removed is missing, has another owner, or is repeated; [`Error::Range`] if a span
+    /// is invalid. These two have the index in `remove` or in `add`. [`Error::Limit`].
     pub fn decorate(&mut self, owner: u64, remove: &[u64], add: &[NewDecoration]) -> Result<Range<u64>, Error> {
         let (raw, doc, mut first) = (self.raw(), self.doc(), 0);
         let new: Vec<_> = add.iter().map(NewDecoration::raw).collect();
-        // SAFETY: as `Session::raw` tells; pointers and lengths are those of slices, and `first` is a place of its own.
+        // SAFETY: see `Session::raw`; pointers and lengths are those of slices, and `first` is a separate address.
         let status = unsafe {
             let (ids, gone, at) = (remove.as_ptr(), remove.len(), new.as_ptr());
             ffi::tm_raw_decorate(raw, doc, owner, ids, gone, at, new.len(), &mut first)
@@ -129,7 +128,7 @@ impl Document<'_> {
         }
     }
 
-    /// The id, or the new decoration, for which a call was refused.
+    /// Finds the id, or the new decoration, for which a call was refused.
     fn item_at_fault(&self, owner: u64, remove: &[u64], new: &[ffi::NewDecoration], why: u32) -> At {
         let (raw, doc, mut index) = (self.raw(), self.doc(), 0);
         // SAFETY: as in `decorate`.
@@ -140,23 +139,23 @@ impl Document<'_> {
         At { index: (status == ffi::OK).then_some(index as usize), ..self.at() }
     }
 
-    /// The decoration of this id; None where there is none.
+    /// Returns the decoration with this id; None if there is none.
     pub fn decoration(&self, id: u64) -> Option<Decoration> {
         let mut found = ffi::Decoration::default();
-        // SAFETY: as `Session::raw` tells; `found` is a place of its own.
+        // SAFETY: see `Session::raw`; `found` is a separate address.
         let status = unsafe { ffi::tm_deco(self.raw(), self.doc(), id, &mut found) };
         (status == ffi::OK).then(|| Decoration::of(&found))
     }
 
-    /// The decorations that overlap or touch the span, those of an owner or all: by their starts, then by their ends,
-    /// then by their ids.
+    /// Returns the decorations that overlap or touch the span: those of an owner, or all. They are sorted by start, then
+    /// by end, then by id.
     ///
     /// # Errors
-    /// [`Error::Range`] where the span is none between two places of the text.
+    /// [`Error::Range`] if the span is invalid.
     pub fn decorations(&self, span: impl RangeBounds<usize>, owner: Option<u64>) -> Result<Vec<Decoration>, Error> {
         let (raw, doc, (start, end)) = (self.raw(), self.doc(), self.span(span));
         let (of, any) = (owner.unwrap_or(0), owner.is_none());
-        // SAFETY: as `Session::raw` tells; the closure gets a place, how much room it has, and another for the count.
+        // SAFETY: see `Session::raw`; the closure gets a buffer, its size and an address for the count.
         let found = self.list(LIST, |out, room, count| unsafe {
             ffi::tm_raw_decos(raw, doc, start, end, of, any, out, room, count)
         })?;

@@ -1,4 +1,4 @@
-//! A document: how large it is, its places, and what the calls of other modules share.
+//! A document: its size, offsets and positions, and helpers of the other modules.
 
 use crate::error::{done, was_there, At, Error};
 use crate::ffi;
@@ -7,18 +7,18 @@ use crate::text::{listed, string_of, Encoding, Ending, Position};
 use std::fmt;
 use std::ops::{Bound, RangeBounds};
 
-/// How much room the stops of a line get at first.
+/// The first size of the buffer for the stops of a line.
 const STOPS: usize = 256;
 
 /// A handle of one of the documents of a [`Session`].
 ///
-/// There may be several handles of one document. What one of them changes, the others tell.
+/// There may be several handles of one document. A change through one is seen through the others.
 pub struct Document<'s> {
     session: &'s Session,
     number: usize,
 }
 
-/// What is asked of the text and of the document.
+/// Questions about the text and the document.
 impl<'s> Document<'s> {
     pub(crate) fn new(session: &'s Session, number: usize) -> Document<'s> {
         Document { session, number }
@@ -29,18 +29,18 @@ impl<'s> Document<'s> {
         self.number
     }
 
-    /// How many UTF-16 units the text has.
+    /// Returns the length of the text in UTF-16 units.
     pub fn len(&self) -> usize {
-        // SAFETY: as `Session::raw` tells; `out` is a place of its own.
+        // SAFETY: see `Session::raw`; `out` is a separate address.
         self.told(|out| unsafe { ffi::tm_len(self.raw(), self.doc(), out) }) as usize
     }
 
-    /// Whether the text has no unit.
+    /// Returns whether the text is empty.
     pub fn is_empty(&self) -> bool {
         self.len() == 0
     }
 
-    /// How many lines the text has, 1 or more.
+    /// Returns the number of lines, at least 1.
     pub fn len_lines(&self) -> usize {
         // SAFETY: as in `len`.
         self.told(|out| unsafe { ffi::tm_line_count(self.raw(), self.doc(), out) }) as usize
@@ -55,27 +55,27 @@ impl<'s> Document<'s> {
         Ending::of(kind)
     }
 
-    /// The version: 1 for a new document, and 1 more with each change, also an undo.
+    /// Returns the version: 1 for a new document, and 1 more after each change, an undo too.
     pub fn version(&self) -> u64 {
         self.versions().0
     }
 
-    /// The version at which the text was last the same as now. After an undo it is that of the text which came back, so
-    /// that an editor can tell whether the text is the one that was saved.
+    /// Returns the alternative version. An edit sets it to the version; an undo or redo restores that of the text that
+    /// it restores. So an editor can find out whether the text is the one that was saved.
     pub fn alternative_version(&self) -> u64 {
         self.versions().1
     }
 
     fn versions(&self) -> (u64, u64) {
         let (mut version, mut alternative) = (0, 0);
-        // SAFETY: as in `len`; both are places of their own.
+        // SAFETY: as in `len`; both are valid addresses.
         let status = unsafe { ffi::tm_versions(self.raw(), self.doc(), &mut version, &mut alternative) };
         debug_assert_eq!(status, ffi::OK);
         (version, alternative)
     }
 
-    /// The position of an offset; None where that is not a place of the text. `encoding` says what its column counts.
-    /// In a mixed document the place between a CR and its LF has a column too, one behind the content of its line.
+    /// Converts an offset into a position; None if the offset is invalid. `encoding` is the unit of the column. In a
+    /// mixed document the offset between a CR and its LF has a column too, the one after the end of the line's content.
     ///
     /// ```
     /// # use textmodel::{Encoding, Position, Session};
@@ -95,14 +95,14 @@ impl<'s> Document<'s> {
     /// [`Error::Memory`], but not with [`Encoding::Utf16`].
     pub fn position(&self, offset: usize, encoding: Encoding) -> Result<Option<Position>, Error> {
         let mut place = ffi::Place::default();
-        // SAFETY: as in `len`; `place` is a place of its own.
+        // SAFETY: as in `len`; `place` is a separate address.
         let status = unsafe { ffi::tm_position(self.raw(), self.doc(), offset as u64, encoding as u32, &mut place) };
         let position = Position::new(place.line as usize, place.column as usize);
         Ok(self.was_there(status)?.then_some(position))
     }
 
-    /// The offset of a position; None where there is no such line, its column is beyond the end of the line or inside a
-    /// character. `encoding` says what its column counts.
+    /// Converts a position into an offset; None if the line is missing, or the column is beyond its end or inside a
+    /// character. `encoding` is the unit of the column.
     ///
     /// # Errors
     /// [`Error::Memory`], but not with [`Encoding::Utf16`].
@@ -114,13 +114,13 @@ impl<'s> Document<'s> {
         Ok(self.was_there(status)?.then_some(offset as usize))
     }
 
-    /// The columns of a line at which a cursor may stop: where its grapheme clusters begin, from 1. The end of the line
-    /// is not among them. `encoding` says what they count.
+    /// Returns the columns of a line at which a cursor may stop: the starts of its grapheme clusters, from 1. The end of
+    /// the line is left out. `encoding` is their unit.
     ///
     /// # Errors
-    /// [`Error::Range`] where there is no such line.
+    /// [`Error::Range`] if there is no such line.
     pub fn stops(&self, line: usize, encoding: Encoding) -> Result<Vec<usize>, Error> {
-        // SAFETY: as in `len`; the closure gets a place, how much room it has, and another for the count.
+        // SAFETY: as in `len`; the closure gets a buffer, its size and an address for the count.
         let stops: Vec<u64> = self.list(STOPS, |out, room, count| unsafe {
             ffi::tm_raw_stops(self.raw(), self.doc(), line as u64, encoding as u32, out, room, count)
         })?;
@@ -128,7 +128,7 @@ impl<'s> Document<'s> {
     }
 }
 
-/// What the calls of this crate share.
+/// Helpers of this crate's calls.
 impl<'s> Document<'s> {
     /// A second handle, for as long as this one is borrowed.
     pub(crate) fn again(&self) -> Document<'_> {
@@ -143,7 +143,7 @@ impl<'s> Document<'s> {
         self.session.raw()
     }
 
-    /// Its number, as the library gets it.
+    /// The number, as the library takes it.
     pub(crate) fn doc(&self) -> u64 {
         self.number as u64
     }
@@ -160,7 +160,7 @@ impl<'s> Document<'s> {
         was_there(status, self.at())
     }
 
-    /// The elements that a call tells, as `listed` has it.
+    /// The elements that a call writes, see `listed`.
     pub(crate) fn list<T: Clone + Default>(
         &self,
         room: usize,
@@ -169,7 +169,7 @@ impl<'s> Document<'s> {
         listed(room, self.at(), call)
     }
 
-    /// The text that a call tells in UTF-8.
+    /// The text that a call writes in UTF-8.
     pub(crate) fn string(
         &self,
         room: usize,
@@ -178,7 +178,7 @@ impl<'s> Document<'s> {
         self.list(room, call).map(string_of)
     }
 
-    /// The number that a call tells which is never refused for a document that is there.
+    /// The number that a call sets; such a call is never refused for a valid document.
     fn told(&self, call: impl FnOnce(&mut u64) -> u32) -> u64 {
         let mut number = 0;
         let status = call(&mut number);
@@ -186,7 +186,7 @@ impl<'s> Document<'s> {
         number
     }
 
-    /// The start and the end of a range. Whether they are places of the text is for the library to say.
+    /// The start and the end of a range. The library checks whether they are valid offsets.
     pub(crate) fn span(&self, span: impl RangeBounds<usize>) -> (u64, u64) {
         let start = match span.start_bound() {
             Bound::Included(&start) => start,
@@ -201,7 +201,7 @@ impl<'s> Document<'s> {
         (start as u64, end as u64)
     }
 
-    /// How much room the text of a span may take: as much as it has units, where it is one of the text.
+    /// The size of the buffer for a span: its length in units, if it is valid.
     pub(crate) fn guess(&self, start: u64, end: u64) -> usize {
         end.min(self.len() as u64).saturating_sub(start) as usize
     }

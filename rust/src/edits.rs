@@ -8,7 +8,7 @@ use crate::text::{Encoding, Position, Text};
 use std::ops::{Range, RangeBounds};
 
 impl Document<'_> {
-    /// The text takes the place of the span. An edit drops what could be redone.
+    /// Replaces the span by the text. Steps that could be redone are dropped.
     ///
     /// ```
     /// # fn main() -> Result<(), textmodel::Error> {
@@ -23,10 +23,10 @@ impl Document<'_> {
     /// ```
     ///
     /// # Errors
-    /// [`Error::Range`] where the span is none between two places of the text; [`Error::Limit`].
+    /// [`Error::Range`] if the span is invalid; [`Error::Limit`].
     pub fn edit<'a>(&mut self, span: impl RangeBounds<usize>, text: impl Into<Text<'a>>) -> Result<(), Error> {
         let (raw, doc, (start, end), text, mut bad) = (self.raw(), self.doc(), self.span(span), text.into(), 0);
-        // SAFETY: as `Session::raw` tells; pointers and lengths are those of slices, and `bad` is a place of its own.
+        // SAFETY: see `Session::raw`; pointers and lengths are those of slices, and `bad` is a separate address.
         self.done(unsafe {
             match text {
                 Text::Utf8(it) => ffi::tm_raw_edit_utf8(raw, doc, start, end, it.as_ptr(), it.len(), &mut bad),
@@ -35,7 +35,7 @@ impl Document<'_> {
         })
     }
 
-    /// Puts a text in at an offset.
+    /// Inserts a text at an offset.
     ///
     /// # Errors
     /// As [`edit`](Self::edit).
@@ -43,7 +43,7 @@ impl Document<'_> {
         self.edit(offset..offset, text)
     }
 
-    /// Takes a span out.
+    /// Deletes a span.
     ///
     /// # Errors
     /// As [`edit`](Self::edit).
@@ -51,8 +51,7 @@ impl Document<'_> {
         self.edit(span, "")
     }
 
-    /// The text takes the place of what stands from one position up to another. `encoding` says what their columns
-    /// count.
+    /// Replaces the text from one position up to another. `encoding` is the unit of their columns.
     ///
     /// ```
     /// # use textmodel::{Encoding, Position, Session};
@@ -68,8 +67,7 @@ impl Document<'_> {
     /// ```
     ///
     /// # Errors
-    /// [`Error::Range`] where one of the positions is none of the text, or the first is behind the other;
-    /// [`Error::Limit`].
+    /// [`Error::Range`] if a position is invalid, or the first is after the second; [`Error::Limit`].
     pub fn edit_at<'a>(
         &mut self,
         span: Range<Position>,
@@ -96,11 +94,11 @@ impl Document<'_> {
 pub struct Edit<'a> {
     /// The number of the document.
     pub document: usize,
-    /// The span that is replaced, in the text before the joint edit.
+    /// The span to replace, in the text before the joint edit.
     pub span: Range<usize>,
-    /// The text that takes its place.
+    /// The new text.
     pub text: Text<'a>,
-    /// Whether decorations at the place move to the end of the new text, whatever their stickiness.
+    /// Whether decorations at the span move to the end of the new text, whatever their stickiness.
     pub force: bool,
 }
 
@@ -110,7 +108,7 @@ impl<'a> Edit<'a> {
         Edit { document, span, text: text.into(), force: false }
     }
 
-    /// As an op, for a text that has so many units or bytes.
+    /// The edit as an op, for a text of this many units or bytes.
     fn op(&self, units: usize) -> ffi::Op {
         ffi::Op {
             doc: self.document as u64,
@@ -128,7 +126,7 @@ enum Joined {
     Utf16(Vec<u16>),
 }
 
-/// The ops of the edits, and their texts: in UTF-8 where all are.
+/// The ops of the edits, and their texts: in UTF-8 if all of them are.
 fn ops_of(edits: &[Edit<'_>]) -> (Vec<ffi::Op>, Joined) {
     let mut joined = String::new();
     let ops = edits.iter().map(|edit| match edit.text {
@@ -155,9 +153,9 @@ fn ops_in_units(edits: &[Edit<'_>]) -> (Vec<ffi::Op>, Joined) {
 }
 
 impl Session {
-    /// Several edits at once, in one document or in several, all or none. Edits of one document stand side by side in
-    /// the list, and all spans are of the texts before. In several documents it is a step of undo of its own in
-    /// each of them, and an undo or redo of one of these steps is one of all of them.
+    /// Carries out edits in one or several documents, all or none. The edits of one document are adjacent in the list,
+    /// and all spans refer to the texts before the call. With several documents, each gets an undo step of its own;
+    /// these steps are undone and redone together.
     ///
     /// ```
     /// # use textmodel::{Edit, Session};
@@ -175,13 +173,13 @@ impl Session {
     /// ```
     ///
     /// # Errors
-    /// [`Error::Range`] where there is no edit, or a span is none between two places of its text; [`Error::Unknown`]
-    /// where a document is above 63, or comes again behind another one; [`Error::Overlap`] where two spans of a
-    /// document overlap. These three tell the edit at fault, where there is one. [`Error::Limit`].
+    /// [`Error::Range`] if there is no edit, or a span is invalid; [`Error::Unknown`] if a document number is above 63,
+    /// or is repeated after another one; [`Error::Overlap`] if two spans of a document overlap. These three name the
+    /// invalid edit, if there is a single one. [`Error::Limit`].
     pub fn joint(&self, edits: &[Edit<'_>]) -> Result<(), Error> {
         let (ops, joined) = ops_of(edits);
         let (raw, at, count, mut bad) = (self.raw(), ops.as_ptr(), ops.len(), 0);
-        // SAFETY: as `Session::raw` tells; pointers and lengths are those of slices, and `bad` is a place of its own.
+        // SAFETY: see `Session::raw`; pointers and lengths are those of slices, and `bad` is a separate address.
         let status = unsafe {
             match &joined {
                 Joined::Utf8(it) => ffi::tm_raw_joint_utf8(raw, at, count, it.as_ptr(), it.len(), &mut bad),
@@ -194,7 +192,7 @@ impl Session {
         }
     }
 
-    /// The edit for which a joint edit was refused.
+    /// Finds the edit for which a joint edit was refused.
     fn edit_at_fault(&self, ops: &[ffi::Op], why: u32) -> At {
         let (left, mut index) = (ops.iter().map(|op| op.units).sum(), 0);
         // SAFETY: as in `joint`.

@@ -3,13 +3,13 @@
 use crate::ffi;
 use std::fmt;
 
-/// Where a refused call was at fault, as far as it is known.
+/// The invalid item of a refused call, if known.
 #[derive(Clone, Copy, Debug, Default, PartialEq, Eq, Hash)]
 pub struct At {
     /// The number of the document, as the caller gave it.
     pub document: Option<usize>,
-    /// The place in the list that was given, from 0: of the edits of a joint edit, of the ids to remove, or of the
-    /// decorations to add. With the items before it alone the call would not have been refused so.
+    /// The index in the list of the joint edit's edits, of the ids to remove, or of the decorations to add, from 0. With
+    /// only the items before it, the call would not have been refused with this error.
     pub index: Option<usize>,
 }
 
@@ -23,7 +23,7 @@ impl At {
 #[derive(Clone, Copy, Debug, PartialEq, Eq, Hash)]
 #[non_exhaustive]
 pub enum Error {
-    /// There is no document, decoration, snapshot, event or mirror of this number.
+    /// There is no document, decoration, snapshot, event or mirror with this number.
     Unknown(At),
     /// An offset, span, line, column or text is out of range or invalid.
     Range(At),
@@ -34,19 +34,19 @@ pub enum Error {
     Limit(At),
     /// There was no memory for the call.
     Memory(At),
-    /// The step is one of several documents, and not the last one (to undo) or the next one (to redo) of each of them.
+    /// The step is a joint one, and not the last one (to undo) or the next one (to redo) of each of its documents.
     Joint {
-        /// A document that has another step first.
+        /// A document whose last or next step is another one.
         document: usize,
     },
-    /// The mirror lacks events before this one.
+    /// The mirror lacks earlier events.
     Gap {
         /// The version of the mirror.
         have: u64,
-        /// The version with which the event begins.
+        /// The version from which the event leads.
         need: u64,
     },
-    /// The library answered a status that this crate does not expect, as one of another version may.
+    /// The library returned a status unknown to this crate, as a library of another version may.
     Status(u32),
 }
 
@@ -63,7 +63,7 @@ impl Error {
         }
     }
 
-    /// Where the call was at fault, for the errors that tell it.
+    /// The invalid item, for the errors that have one.
     pub fn at(&self) -> At {
         match *self {
             Error::Unknown(at) | Error::Range(at) | Error::Overlap(at) | Error::Limit(at) | Error::Memory(at) => at,
@@ -106,7 +106,7 @@ impl fmt::Display for Error {
 
 impl std::error::Error for Error {}
 
-/// Nothing where the status is OK.
+/// `Ok` if the status is OK.
 pub(crate) fn done(status: u32, at: At) -> Result<(), Error> {
     match status {
         ffi::OK => Ok(()),
@@ -114,7 +114,7 @@ pub(crate) fn done(status: u32, at: At) -> Result<(), Error> {
     }
 }
 
-/// Whether there was anything to do, or anything there.
+/// Whether there was something to do or to find.
 pub(crate) fn was_there(status: u32, at: At) -> Result<bool, Error> {
     match status {
         ffi::NOTHING => Ok(false),

@@ -21,25 +21,26 @@
 //!
 //! # Sessions, documents and threads
 //!
-//! A [`Session`] owns 64 documents and may be sent to another thread. It is not `Sync`: where several threads use one,
-//! put it in a `Mutex`. A [`Document`] is a handle of one of them, and borrows the session without excluding others, so
-//! that documents are edited side by side, and a [`Snapshot`] is read while its document changes. Questions take
-//! `&self`, and changes `&mut self`, so that no change comes between the items of an iterator of the same handle. A
-//! [joint edit](Session::joint) is one of the session. Handles are cheap: `session.document(3)?` makes one when it is
+//! A [`Session`] owns 64 documents and may be sent to another thread. It is not `Sync`: put it in a `Mutex` to use it
+//! from several threads. A [`Document`] is a handle of one of them. It borrows the session shared, so that several
+//! documents can be edited at once, and a [`Snapshot`] can be read while its document changes. Questions take `&self`
+//! and changes `&mut self`: while an iterator of a handle lives, the handle can't change its document. A
+//! [joint edit](Session::joint) is a call of the session. Handles are cheap: `session.document(3)?` makes one when
 //! needed.
 //!
-//! # What counts how
+//! # Units
 //!
-//! - A text is UTF-16, also where surrogates stand alone. Calls take a `&str` or UTF-16 units, as [`Text`] tells. Those
-//!   that hand out a `String` put U+FFFD in the place of a lone surrogate, and each has a sister that hands out units.
-//! - An offset counts units from 0. A *place* is an offset from 0 up to the length of the text that stands inside no
-//!   pair of surrogates, nor between a CR and its LF where the document has CR LF endings. Spans are ranges of offsets.
-//! - Lines and columns count from 1. An [`Encoding`] tells what a column counts.
+//! - A text is UTF-16; lone surrogates are allowed. Calls take a `&str` or UTF-16 units, see [`Text`]. Calls that
+//!   return a `String` replace a lone surrogate by U+FFFD; each has a variant that returns units.
+//! - An offset counts units from 0. A valid offset is from 0 to the length of the text, not inside a surrogate pair, and
+//!   not between a CR and its LF if the document has CR LF endings. Spans are ranges of offsets; in a valid span both
+//!   are valid, and the start is not above the end.
+//! - Lines and columns count from 1. An [`Encoding`] is the unit of a column.
 //! - A text has at most 2^40 - 1 units, a document at most 2^20 decorations and 1,000 open snapshots; versions and ids
 //!   go up to 2^63 - 1. A call that would pass a limit is refused with [`Error::Limit`].
 //!
-//! A refused call has changed nothing. [`Error::Memory`] may come from any call that answers a `Result`, and is not
-//! told at each.
+//! A refused call has changed nothing. Any call that returns a `Result` may fail with [`Error::Memory`]; the pages of
+//! the calls do not repeat that.
 #![deny(missing_docs, unsafe_op_in_unsafe_fn)]
 #![deny(clippy::unwrap_used, clippy::expect_used, clippy::undocumented_unsafe_blocks)]
 

@@ -1,29 +1,29 @@
-//! Mirrors: a second text of a document, which follows it by its events.
+//! Mirrors: a mirror is a second text that follows a document by its events.
 
 use crate::document::Document;
 use crate::error::Error;
 use crate::ffi;
 
-/// How much room a line gets at first, in bytes or units.
+/// The first size of the buffer for a line, in bytes or units.
 const LINE: usize = 256;
 
-/// A change that was sent.
+/// A change that was sent as an event.
 #[derive(Clone, Copy, Debug, PartialEq, Eq, Hash)]
 pub struct Event {
-    /// Its number among those of the document, from 1.
+    /// Its number in the document, from 1.
     pub number: u64,
-    /// The version from which it leads to the next one.
+    /// The version before the change; the event leads to the next one.
     pub from: u64,
 }
 
-/// What a mirror is now.
+/// The state of a mirror.
 #[derive(Clone, Copy, Debug, PartialEq, Eq, Hash)]
 pub struct Mirrored {
-    /// The version whose text it has.
+    /// Its version: that of the text that it has.
     pub version: u64,
-    /// How many units that has.
+    /// The length of its text in units.
     pub len: usize,
-    /// How many lines that has.
+    /// The number of its lines.
     pub len_lines: usize,
 }
 
@@ -34,7 +34,7 @@ impl Mirrored {
 }
 
 impl Document<'_> {
-    /// Begins a mirror with the text of now, in the place of the one that the document had. Tells its version.
+    /// Starts a mirror with the present text; it replaces the document's old mirror. Returns its version.
     ///
     /// ```
     /// # fn main() -> Result<(), textmodel::Error> {
@@ -55,30 +55,30 @@ impl Document<'_> {
     /// [`Error::Memory`].
     pub fn begin_mirror(&mut self) -> Result<u64, Error> {
         let mut version = 0;
-        // SAFETY: as `Session::raw` tells; `version` is a place of its own.
+        // SAFETY: see `Session::raw`; `version` is a separate address.
         self.done(unsafe { ffi::tm_mirror(self.raw(), self.doc(), &mut version) })?;
         Ok(version)
     }
 
-    /// Sends the last change as an event, which is kept; None in version 1, which no change made.
+    /// Sends the last change as an event, which is kept; None in version 1, before any change.
     ///
     /// # Errors
-    /// [`Error::Limit`] where 65,536 events were sent.
+    /// [`Error::Limit`] if 65,536 events were sent.
     pub fn send(&mut self) -> Result<Option<Event>, Error> {
         let (mut number, mut from) = (0, 0);
-        // SAFETY: as `Session::raw` tells; both are places of their own.
+        // SAFETY: see `Session::raw`; both are valid addresses.
         let status = unsafe { ffi::tm_send(self.raw(), self.doc(), &mut number, &mut from) };
         Ok(self.was_there(status)?.then_some(Event { number, from }))
     }
 
-    /// Hands an event to the mirror, by its number: what the mirror is then, or None where it was past that event.
+    /// Delivers the event with this number to the mirror. Returns the mirror's new state, or None if it is past that
+    /// event.
     ///
     /// # Errors
-    /// [`Error::Gap`] where it lacks events before that one; [`Error::Unknown`] where there is no such event, or no
-    /// mirror.
+    /// [`Error::Gap`] if the mirror lacks earlier events; [`Error::Unknown`] if there is no such event, or no mirror.
     pub fn deliver(&mut self, number: u64) -> Result<Option<Mirrored>, Error> {
         let (mut told, mut have, mut need) = (ffi::Followed::default(), 0, 0);
-        // SAFETY: as `Session::raw` tells; the three are places of their own.
+        // SAFETY: see `Session::raw`; the three are valid addresses.
         let status = unsafe {
             let (raw, doc) = (self.raw(), self.doc());
             ffi::tm_raw_deliver(raw, doc, number, &mut told, &mut have, &mut need)
@@ -89,10 +89,10 @@ impl Document<'_> {
         }
     }
 
-    /// What the mirror is now; None where there is none.
+    /// Returns the state of the mirror; None if there is none.
     pub fn mirrored(&self) -> Option<Mirrored> {
         let mut told = ffi::Followed::default();
-        // SAFETY: as `Session::raw` tells; `told` is a place of its own.
+        // SAFETY: see `Session::raw`; `told` is a separate address.
         let status = unsafe { ffi::tm_mirror_now(self.raw(), self.doc(), &mut told) };
         (status == ffi::OK).then(|| Mirrored::of(&told))
     }
@@ -100,9 +100,9 @@ impl Document<'_> {
     /// The content of a line of the mirror, from 1, without its line ending. A lone surrogate becomes U+FFFD.
     ///
     /// # Errors
-    /// [`Error::Range`] where the mirror has no such line; [`Error::Unknown`] where there is no mirror.
+    /// [`Error::Range`] if the mirror has no such line; [`Error::Unknown`] if there is no mirror.
     pub fn mirrored_line(&self, line: usize) -> Result<String, Error> {
-        // SAFETY: as `Session::raw` tells; the closure gets a place, how much room it has, and another for the count.
+        // SAFETY: see `Session::raw`; the closure gets a buffer, its size and an address for the count.
         self.string(LINE, |out, room, count| unsafe {
             ffi::tm_raw_mirrored_utf8(self.raw(), self.doc(), line as u64, out, room, count)
         })

@@ -1,18 +1,18 @@
-//! Opening: a new text, its line endings and brackets, and what hides these.
+//! Opening: a new text, its line endings, its brackets, and its comments and strings.
 
 use crate::document::Document;
 use crate::error::Error;
 use crate::ffi;
 use crate::text::{Ending, Text};
 
-/// What begins and ends comments and strings, in which brackets are text. One that is new has none of them.
+/// The texts that begin and end comments and strings, in which brackets are ignored. There are none at first.
 ///
 /// ```
 /// let hiding = textmodel::Hiding::new().line("--").block("{-", "-}").quote('"');
 /// ```
 ///
-/// Each text has 1 to 32 units and no line break, and there are at most 8 quotes, all different; else the opening is
-/// refused. A string ends with its line at the latest, and a backslash in it takes the next unit along.
+/// Each text has 1 to 32 units and no line break. There are at most 8 quotes, all different. Otherwise the open is
+/// refused. A string ends with its line at the latest. A backslash in a string escapes the next unit.
 #[derive(Clone, Debug, Default, PartialEq, Eq)]
 pub struct Hiding {
     line: Vec<u16>,
@@ -22,19 +22,19 @@ pub struct Hiding {
 }
 
 impl Hiding {
-    /// Nothing is hidden.
+    /// No comments and no strings.
     pub fn new() -> Hiding {
         Hiding::default()
     }
 
-    /// The text that begins a comment up to the end of its line. An empty one is none.
+    /// Sets the text that begins a comment up to the end of its line. Empty means that there are no such comments.
     #[must_use]
     pub fn line<'a>(mut self, text: impl Into<Text<'a>>) -> Hiding {
         self.line = text.into().to_units().into_owned();
         self
     }
 
-    /// The texts that begin and end a comment of several lines. Two empty ones are none.
+    /// Sets the texts that begin and end a block comment. Two empty ones mean that there are no such comments.
     #[must_use]
     pub fn block<'a>(mut self, opening: impl Into<Text<'a>>, closing: impl Into<Text<'a>>) -> Hiding {
         self.opening = opening.into().to_units().into_owned();
@@ -42,7 +42,7 @@ impl Hiding {
         self
     }
 
-    /// One more quote, which begins and ends strings. One above U+FFFF is two units, and so two quotes.
+    /// Adds a quote, which begins and ends strings. A character above U+FFFF has two units, and adds two quotes.
     #[must_use]
     pub fn quote(mut self, quote: char) -> Hiding {
         self.quotes.extend_from_slice(quote.encode_utf16(&mut [0; 2]));
@@ -93,8 +93,8 @@ impl Hiding {
     }
 }
 
-/// How a document is opened. What is not said is: line endings stay as they come, the brackets are `()`, `[]` and `{}`,
-/// and nothing hides them.
+/// Options to open a document. By default line endings stay as they come, the brackets are `()`, `[]` and `{}`, and
+/// there are no comments or strings.
 ///
 /// ```
 /// use textmodel::{Ending, Hiding, OpenOptions, Session};
@@ -118,19 +118,20 @@ pub struct OpenOptions {
 }
 
 impl OpenOptions {
-    /// Nothing is said yet.
+    /// The default options.
     pub fn new() -> OpenOptions {
         OpenOptions::default()
     }
 
-    /// The line endings. All of the text, and of what is put in later, are changed to them, but with [`Ending::Mixed`].
+    /// Sets the line endings. Those of the text, and of text inserted later, are converted, except with
+    /// [`Ending::Mixed`].
     pub fn ending(&mut self, ending: Ending) -> &mut OpenOptions {
         self.ending = ending;
         self
     }
 
-    /// One more pair of brackets, up to 64; the first takes the place of `()`, `[]` and `{}`. Its texts have 1 to 32
-    /// units and no line break, and all are different.
+    /// Adds a pair of brackets, at most 64; the first one replaces `()`, `[]` and `{}`. Its texts have 1 to 32 units and
+    /// no line break, and all texts differ.
     pub fn pair<'a>(&mut self, opening: impl Into<Text<'a>>, closing: impl Into<Text<'a>>) -> &mut OpenOptions {
         let (opening, closing) = (opening.into().to_units(), closing.into().to_units());
         self.pairs.push(ffi::Pair { opening: opening.len() as u64, closing: closing.len() as u64 });
@@ -139,18 +140,17 @@ impl OpenOptions {
         self
     }
 
-    /// What hides brackets.
+    /// Sets the comments and strings, in which brackets are ignored.
     pub fn hiding(&mut self, hiding: &Hiding) -> &mut OpenOptions {
         self.hiding = hiding.clone();
         self
     }
 
-    /// Puts a new document with this text in the place of the old one, at version 1. The decorations, snapshots and
-    /// history of that are gone, and so are its mirror and events. A [`Snapshot`](crate::Snapshot) of it is refused
-    /// with [`Error::Unknown`] then.
+    /// Replaces the document by a new one with this text, at version 1. The decorations, snapshots, history, mirror and
+    /// events of the old one are lost. A read of its [`Snapshot`](crate::Snapshot)s then fails with [`Error::Unknown`].
     ///
     /// # Errors
-    /// [`Error::Range`] where a bracket, or a text that hides them, is invalid; [`Error::Limit`].
+    /// [`Error::Range`] if the brackets or the hiding are invalid; [`Error::Limit`].
     pub fn open<'a>(&self, document: &mut Document<'_>, text: impl Into<Text<'a>>) -> Result<(), Error> {
         document.done(self.status_of(document, text.into()))?;
         document.session().count_opening(document.number());
@@ -164,7 +164,7 @@ impl OpenOptions {
         let [line, opening, closing] = self.hiding.lengths();
         let texts = self.hiding.texts();
         let (marks, marks_len) = (texts.as_ptr(), texts.len());
-        // SAFETY: as `Session::raw` tells; pointers and lengths are those of slices, and `bad` is a place of its own.
+        // SAFETY: see `Session::raw`; pointers and lengths are those of slices, and `bad` is a separate address.
         #[rustfmt::skip]
         let status = unsafe {
             match text {
@@ -183,8 +183,7 @@ impl OpenOptions {
 }
 
 impl Document<'_> {
-    /// Puts a new document with this text in the place of the old one, as [`OpenOptions::open`] does where nothing else
-    /// is said.
+    /// Replaces the document by a new one with this text, as [`OpenOptions::open`] does with default options.
     ///
     /// # Errors
     /// [`Error::Limit`].

@@ -7,9 +7,9 @@ use crate::text::string_of;
 use std::iter::FusedIterator;
 use std::ops::{Range, RangeBounds};
 
-/// How much room a line gets at first, in bytes or units.
+/// The first size of the buffer for a line, in bytes or units.
 const LINE: usize = 256;
-/// How many bytes of UTF-8 a chunk has room for. Each unit takes up to three.
+/// The size of the buffer for a chunk, in bytes of UTF-8. Each unit takes at most 3.
 const CHUNK: usize = 3 << 14;
 
 impl Document<'_> {
@@ -35,10 +35,10 @@ impl Document<'_> {
     /// ```
     ///
     /// # Errors
-    /// [`Error::Range`] where this is no span between two places of the text.
+    /// [`Error::Range`] if the span is invalid.
     pub fn slice(&self, span: impl RangeBounds<usize>) -> Result<String, Error> {
         let (start, end) = self.span(span);
-        // SAFETY: as `Session::raw` tells; the closure gets a place, how much room it has, and another for the count.
+        // SAFETY: see `Session::raw`; the closure gets a buffer, its size and an address for the count.
         self.string(self.guess(start, end), |out, room, count| unsafe {
             ffi::tm_raw_value_utf8(self.raw(), self.doc(), start, end, out, room, count)
         })
@@ -78,7 +78,7 @@ impl Document<'_> {
         })
     }
 
-    /// The lines, as [`line`](Self::line) tells each, from either end.
+    /// The lines, each as [`line`](Self::line) returns it, from either end.
     ///
     /// ```
     /// # fn main() -> Result<(), textmodel::Error> {
@@ -95,22 +95,21 @@ impl Document<'_> {
         Lines { document: self.again(), left }
     }
 
-    /// The text from an offset on, in parts of some 10,000 characters, none of them empty or cut inside a character or
-    /// a CR LF of a document with these endings. An offset that is not a place of the text is told as the first
-    /// item.
+    /// The text from an offset on, in parts of some 10,000 characters. No part is empty, or ends inside a character or
+    /// inside a CR LF of a document with these endings. If the offset is invalid, the first item is the error.
     pub fn chunks(&self, from: usize) -> Chunks<'_> {
         let document = self.again();
         Chunks { document, offset: from as u64, is_over: false }
     }
 
-    /// Reads as many units from an offset on as there is room for, one fewer where the last would be cut from the next:
-    /// from a pair of surrogates, or from the LF of a CR LF line ending. Tells how many; 0 is the end of the text.
+    /// Reads as many units from an offset on as fit into the buffer, one fewer if that would split a surrogate pair or a
+    /// CR LF line ending. Returns their number, 0 at the end of the text.
     ///
     /// # Errors
-    /// [`Error::Range`] where the offset is not a place of the text, or there is room for fewer than two.
+    /// [`Error::Range`] if the offset is invalid, or the buffer has less than 2 units.
     pub fn read_at(&self, offset: usize, out: &mut [u16]) -> Result<usize, Error> {
         let mut count = 0;
-        // SAFETY: as `Session::raw` tells; pointer and length are those of a slice, and `count` is a place of its own.
+        // SAFETY: see `Session::raw`; pointer and length are those of a slice, and `count` is a separate address.
         let status = unsafe {
             let (place, room) = (out.as_mut_ptr(), out.len());
             ffi::tm_raw_read_into(self.raw(), self.doc(), offset as u64, place, room, &mut count)
@@ -119,7 +118,7 @@ impl Document<'_> {
     }
 }
 
-/// The lines of a document, which [`Document::lines`] makes. Each is told as it is when it is asked for.
+/// The iterator of [`Document::lines`]. Each line is read when the iterator reaches it.
 #[must_use = "an iterator asks for nothing until it is used"]
 #[derive(Debug)]
 pub struct Lines<'d> {
@@ -153,7 +152,7 @@ impl ExactSizeIterator for Lines<'_> {}
 
 impl FusedIterator for Lines<'_> {}
 
-/// The text of a document in parts, which [`Document::chunks`] makes. An error ends it.
+/// The iterator of [`Document::chunks`]. An error ends it.
 #[must_use = "an iterator asks for nothing until it is used"]
 #[derive(Debug)]
 pub struct Chunks<'d> {
@@ -163,7 +162,7 @@ pub struct Chunks<'d> {
 }
 
 impl Chunks<'_> {
-    /// The offset behind what was told.
+    /// The offset after the last part.
     pub fn offset(&self) -> usize {
         self.offset as usize
     }
@@ -171,8 +170,8 @@ impl Chunks<'_> {
     fn part(&mut self) -> Result<String, Error> {
         let (raw, doc) = (self.document.raw(), self.document.doc());
         let (mut out, mut count) = (vec![0; CHUNK], 0);
-        // SAFETY: as `Session::raw` tells; pointer and length are those of `out`, and the two others places of their
-        // own.
+        // SAFETY: see `Session::raw`; pointer and length are those of `out`, and the two others are separate
+        // addresses.
         let status = unsafe {
             let (place, room) = (out.as_mut_ptr(), out.len());
             ffi::tm_raw_read_into_utf8(raw, doc, &mut self.offset, place, room, &mut count)

@@ -6,12 +6,13 @@ use crate::ffi;
 use crate::text::Text;
 use std::ops::Range;
 
-/// How many spans a search has room for at first.
+/// The first size of the buffer for the spans of a search.
 const SPANS: usize = 256;
 
-/// What is looked for, and where: in all of the text, where no more is said. A text by itself converts into it.
+/// A search for a text, by default in all of the document. A text converts into it.
 ///
-/// Spans are found from the start of the text on, and none overlaps the one before. Of these, some are told.
+/// Spans are found from the start of the document on, and none overlaps the one before. The options choose which of
+/// them are returned.
 #[derive(Clone, Copy, Debug, PartialEq, Eq)]
 pub struct Search<'a> {
     text: Text<'a>,
@@ -21,24 +22,24 @@ pub struct Search<'a> {
 }
 
 impl<'a> Search<'a> {
-    /// A search for a text in all of the document.
+    /// Makes a search for a text in all of the document.
     pub fn new(text: impl Into<Text<'a>>) -> Search<'a> {
         Search { text: text.into(), from: 0, back: false, most: u64::MAX }
     }
 
-    /// Tells the spans that begin at the offset or behind it.
+    /// Returns the spans that start at or after the offset.
     #[must_use]
     pub fn forward_from(self, offset: usize) -> Search<'a> {
         Search { from: offset as u64, back: false, ..self }
     }
 
-    /// Tells the spans that end at the offset or before it, the last one first.
+    /// Returns the spans that end at or before the offset, the last one first.
     #[must_use]
     pub fn back_from(self, offset: usize) -> Search<'a> {
         Search { from: offset as u64, back: true, ..self }
     }
 
-    /// Tells at most so many of them.
+    /// Returns at most this many.
     #[must_use]
     pub fn most(self, spans: usize) -> Search<'a> {
         Search { most: spans as u64, ..self }
@@ -52,7 +53,7 @@ impl<'a, T: Into<Text<'a>>> From<T> for Search<'a> {
 }
 
 impl Document<'_> {
-    /// The spans at which a text stands.
+    /// Returns the spans at which the text occurs.
     ///
     /// ```
     /// # use textmodel::{Search, Session};
@@ -67,11 +68,11 @@ impl Document<'_> {
     /// ```
     ///
     /// # Errors
-    /// [`Error::Range`] where the text is empty.
+    /// [`Error::Range`] if the text is empty.
     pub fn find<'a>(&self, search: impl Into<Search<'a>>) -> Result<Vec<Range<usize>>, Error> {
         let (raw, doc, mut bad) = (self.raw(), self.doc(), 0);
         let Search { text, from, back, most } = search.into();
-        // SAFETY: as `Session::raw` tells; pointers and lengths are those of slices, and `bad` is a place of its own.
+        // SAFETY: see `Session::raw`; pointers and lengths are those of slices, and `bad` is a separate address.
         let found: Vec<ffi::Found> = self.list(SPANS, |out, room, count| unsafe {
             match text {
                 Text::Utf8(it) => {
@@ -86,8 +87,8 @@ impl Document<'_> {
         Ok(found.iter().map(|it| it.start as usize..it.end as usize).collect())
     }
 
-    /// Replaces each span at which the sought text stands, as one version and a step of undo of its own. Tells how many
-    /// there were.
+    /// Replaces each span at which the sought text occurs, as one change and an undo step of its own. Returns their
+    /// number.
     ///
     /// ```
     /// # fn main() -> Result<(), textmodel::Error> {
@@ -101,7 +102,7 @@ impl Document<'_> {
     /// ```
     ///
     /// # Errors
-    /// [`Error::Range`] where the sought text is empty; [`Error::Limit`].
+    /// [`Error::Range`] if the sought text is empty; [`Error::Limit`].
     pub fn replace_all<'a, 'b>(
         &mut self,
         sought: impl Into<Text<'a>>,
@@ -109,7 +110,7 @@ impl Document<'_> {
     ) -> Result<usize, Error> {
         let (raw, doc, mut count, mut bad) = (self.raw(), self.doc(), 0, 0);
         let (sought, with) = (sought.into(), with.into());
-        // SAFETY: as in `find`; `count` is a place of its own.
+        // SAFETY: as in `find`; `count` is a separate address.
         let status = unsafe {
             if let (Text::Utf8(a), Text::Utf8(b)) = (sought, with) {
                 let (at, len) = (b.as_ptr(), b.len());

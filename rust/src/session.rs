@@ -11,12 +11,12 @@ use std::fmt;
 /// How many documents a session has.
 pub const DOCUMENTS: usize = 64;
 
-/// How much room a reply gets at first, in bytes.
+/// The first size of the buffer for a reply, in bytes.
 const REPLY: usize = 256;
 
-/// 64 documents, numbered from 0 to 63. All are there from the start, and empty.
+/// 64 documents, numbered from 0 to 63, all empty at first.
 ///
-/// It may go to another thread, and is freed when it is dropped:
+/// It may be sent to another thread, and is freed when it is dropped:
 ///
 /// ```
 /// use textmodel::Session;
@@ -30,7 +30,7 @@ const REPLY: usize = 256;
 /// # }
 /// ```
 ///
-/// Two threads do not share one without a lock:
+/// Two threads can't share a session without a lock:
 ///
 /// ```compile_fail,E0277
 /// fn shared<T: Sync>() {}
@@ -38,7 +38,7 @@ const REPLY: usize = 256;
 /// ```
 pub struct Session {
     raw: UnsafeCell<ffi::Session>,
-    /// How often each document was opened: a snapshot of one that was opened since is gone.
+    /// How often each document was opened, since an open closes its snapshots.
     openings: [Cell<u64>; DOCUMENTS],
 }
 
@@ -47,7 +47,7 @@ pub struct Session {
 unsafe impl Send for Session {}
 
 impl Session {
-    /// A session of 64 empty documents.
+    /// Makes a session of 64 empty documents.
     ///
     /// # Errors
     /// [`Error::Memory`].
@@ -58,10 +58,10 @@ impl Session {
         done(status, At::default()).map(|()| session)
     }
 
-    /// A handle of the document of this number, from 0 to 63.
+    /// Returns a handle of the document with this number, from 0 to 63.
     ///
     /// # Errors
-    /// [`Error::Unknown`] where the number is above 63.
+    /// [`Error::Unknown`] if the number is above 63.
     pub fn document(&self, number: usize) -> Result<Document<'_>, Error> {
         if number >= DOCUMENTS {
             return Err(Error::Unknown(At::of(number)));
@@ -69,11 +69,10 @@ impl Session {
         Ok(Document::new(self, number))
     }
 
-    /// Answers a line of the script language, without its LF: JSON, which is replied by a line that begins with `ok` or
-    /// `!`, told without its LF too. The line may name any of the documents, and speaks of document 0 where it
-    /// names none. The reply itself says whether it was refused.
+    /// Answers a script line, JSON without its LF. Returns the reply, which begins with `ok` or `!`, without its LF too.
+    /// A line without a document number is for document 0. The reply itself says whether the line was refused.
     ///
-    /// No handle and no snapshot is alive then, since a line may open documents anew.
+    /// No handle and no snapshot may be alive, since a line may open documents anew.
     ///
     /// ```
     /// # fn main() -> Result<(), textmodel::Error> {
@@ -86,15 +85,15 @@ impl Session {
     /// ```
     ///
     /// # Errors
-    /// [`Error::Memory`], where there is none for the reply that is handed out.
+    /// [`Error::Memory`], if there is none for the copy of the reply.
     pub fn answer(&mut self, line: impl AsRef<[u8]>) -> Result<String, Error> {
         let (line, mut len) = (line.as_ref(), 0);
-        // SAFETY: `raw` tells why the session is sound; pointer and length are those of a slice, and `len` is a place
-        // of its own.
+        // SAFETY: `raw` says why the session is valid; pointer and length are those of a slice, and `len` is a
+        // separate address.
         let status = unsafe { ffi::tm_raw_answer(self.raw(), line.as_ptr(), line.len(), &mut len) };
         done(status, At::default())?;
         let room = (len as usize).max(REPLY);
-        // SAFETY: as above; `listed` gives a place, and how much room it has.
+        // SAFETY: as above; `listed` gives a buffer and its size.
         let mut reply: Vec<u8> = listed(room, At::default(), |out, room, count| unsafe {
             ffi::tm_raw_reply(self.raw(), 0, out, room, count)
         })?;
@@ -112,12 +111,12 @@ impl Session {
         self.raw.get()
     }
 
-    /// How often the document was opened.
+    /// Returns how often the document was opened.
     pub(crate) fn openings(&self, document: usize) -> u64 {
         self.openings.get(document).map_or(0, Cell::get)
     }
 
-    /// The document was opened once more.
+    /// Notes that the document was opened.
     pub(crate) fn count_opening(&self, document: usize) {
         if let Some(count) = self.openings.get(document) {
             count.set(count.get() + 1);
@@ -127,7 +126,7 @@ impl Session {
 
 impl Drop for Session {
     fn drop(&mut self) {
-        // SAFETY: as `raw` tells; nothing borrows the session any more. An empty one is left as it is.
+        // SAFETY: see `raw`; nothing borrows the session any more. An empty one is left as it is.
         unsafe { ffi::tm_free(self.raw()) };
     }
 }
@@ -138,7 +137,7 @@ impl fmt::Debug for Session {
     }
 }
 
-/// The version of the library that is linked: major, minor, patch.
+/// Returns the version of the linked library: major, minor, patch.
 pub fn library_version() -> (u32, u32, u32) {
     // SAFETY: it takes nothing, and answers a number.
     let version = unsafe { ffi::tm_version() };

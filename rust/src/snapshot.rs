@@ -7,12 +7,12 @@ use crate::session::Session;
 use crate::text::string_of;
 use std::iter::FusedIterator;
 
-/// How many bytes of UTF-8 a part has room for. Each unit takes up to three.
+/// The size of the buffer for a part, in bytes of UTF-8. Each unit takes at most 3.
 const PART: usize = 3 << 14;
 
 /// The text that a document had, read once from its start. It is closed when it is dropped.
 ///
-/// As an iterator it tells what is left of the text in parts, none of them empty or cut inside a character:
+/// As an iterator it returns what was not read yet, in parts. No part is empty, or ends inside a character:
 ///
 /// ```
 /// # fn main() -> Result<(), textmodel::Error> {
@@ -48,13 +48,13 @@ pub struct Snapshot<'s> {
 }
 
 impl<'s> Document<'s> {
-    /// Keeps the text of now, to be read while the document changes.
+    /// Keeps the present text, to be read while the document changes.
     ///
     /// # Errors
-    /// [`Error::Limit`] where 1,000 are open.
+    /// [`Error::Limit`] if 1,000 are open.
     pub fn snapshot(&self) -> Result<Snapshot<'s>, Error> {
         let mut id = 0;
-        // SAFETY: as `Session::raw` tells; `id` is a place of its own.
+        // SAFETY: see `Session::raw`; `id` is a separate address.
         self.done(unsafe { ffi::tm_snapshot(self.raw(), self.doc(), &mut id) })?;
         let (session, document) = (self.session(), self.number());
         Ok(Snapshot { session, document, opening: session.openings(document), id, is_over: false })
@@ -62,20 +62,20 @@ impl<'s> Document<'s> {
 }
 
 impl Snapshot<'_> {
-    /// Reads its next units, as many as there is room for, one fewer where the last would be cut from a pair of
-    /// surrogates. Tells how many; 0 is the end.
+    /// Reads as many of the next units as fit into the buffer, one fewer if that would split a surrogate pair. Returns
+    /// their number, 0 at the end.
     ///
     /// # Errors
-    /// [`Error::Range`] where there is room for fewer than two; [`Error::Unknown`] where its document was opened anew.
+    /// [`Error::Range`] if the buffer has less than 2 units; [`Error::Unknown`] if the document was opened anew.
     pub fn read(&mut self, out: &mut [u16]) -> Result<usize, Error> {
         let (doc, mut count) = (self.doc_of_now()?, 0);
-        // SAFETY: as `Session::raw` tells; pointer and length are those of a slice, and `count` is a place of its own.
+        // SAFETY: see `Session::raw`; pointer and length are those of a slice, and `count` is a separate address.
         let status =
             unsafe { ffi::tm_raw_read(self.session.raw(), doc, self.id, out.as_mut_ptr(), out.len(), &mut count) };
         done(status, self.at()).map(|()| count as usize)
     }
 
-    /// The next part of the text, which is empty at its end.
+    /// Returns the next part of the text, empty at the end.
     fn part(&mut self) -> Result<String, Error> {
         let (doc, mut count) = (self.doc_of_now()?, 0);
         let mut out = vec![0; PART];
@@ -95,7 +95,7 @@ impl Snapshot<'_> {
         self.session.openings(self.document) == self.opening
     }
 
-    /// The number of its document, where that was not opened since: its ids count from 1 again then.
+    /// Returns the number of its document if that was not opened since, else None: its ids count from 1 again.
     fn doc_of_now(&self) -> Result<u64, Error> {
         if self.is_of_now() {
             Ok(self.document as u64)
@@ -105,7 +105,7 @@ impl Snapshot<'_> {
     }
 }
 
-/// What is left of the text. An error ends it.
+/// The parts not read yet. An error ends them.
 impl Iterator for Snapshot<'_> {
     type Item = Result<String, Error>;
 
@@ -124,7 +124,7 @@ impl FusedIterator for Snapshot<'_> {}
 impl Drop for Snapshot<'_> {
     fn drop(&mut self) {
         if self.is_of_now() {
-            // SAFETY: as `Session::raw` tells. What it answers tells nothing that could be done.
+            // SAFETY: see `Session::raw`. Its status is ignored: nothing could be done.
             unsafe { ffi::tm_close(self.session.raw(), self.document as u64, self.id) };
         }
     }

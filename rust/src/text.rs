@@ -1,15 +1,15 @@
-//! Texts as calls take and hand them out, and what counts in them.
+//! Texts as calls take and return them, and the units of offsets and columns.
 
 use crate::error::{done, At, Error};
 use crate::ffi;
 use std::borrow::Cow;
 
-/// A text that a call takes: a `str`, or UTF-16 where a lone surrogate matters. Calls take what converts into it.
+/// A text that a call takes: a `str`, or UTF-16 if a lone surrogate matters. Calls take what converts into it.
 #[derive(Clone, Copy, Debug, PartialEq, Eq)]
 pub enum Text<'a> {
     /// UTF-8.
     Utf8(&'a str),
-    /// UTF-16, where surrogates may stand alone.
+    /// UTF-16; lone surrogates are allowed.
     Utf16(&'a [u16]),
 }
 
@@ -53,12 +53,12 @@ impl<'a> From<&'a Vec<u16>> for Text<'a> {
     }
 }
 
-/// What a column, or the length of a bracket, counts. A lone surrogate counts as U+FFFD.
+/// The unit of a column, or of the length of a bracket. A lone surrogate counts as U+FFFD.
 #[derive(Clone, Copy, Debug, PartialEq, Eq, Hash)]
 pub enum Encoding {
     /// Bytes of UTF-8.
     Utf8 = 8,
-    /// Units of UTF-16. Calls with it need no memory for the conversion.
+    /// UTF-16 units. Calls with it need no memory for the conversion.
     Utf16 = 16,
     /// Code points.
     Utf32 = 32,
@@ -70,9 +70,9 @@ pub enum Ending {
     /// Each is as it came: LF, CR LF or CR.
     #[default]
     Mixed = 0,
-    /// Each is LF, also in what is put in later.
+    /// Each is LF, in text inserted later too.
     Lf = 1,
-    /// Each is CR LF, also in what is put in later.
+    /// Each is CR LF, in text inserted later too.
     CrLf = 2,
 }
 
@@ -86,23 +86,23 @@ impl Ending {
     }
 }
 
-/// A line and a column, both from 1. What the column counts is told beside it, by an [`Encoding`].
+/// A line and a column, both from 1. The unit of the column is the [`Encoding`] passed beside it.
 #[derive(Clone, Copy, Debug, PartialEq, Eq, PartialOrd, Ord, Hash)]
 pub struct Position {
     /// The line, from 1.
     pub line: usize,
-    /// The column, from 1 up to the length of the line and one.
+    /// The column, from 1 to the length of the line plus 1.
     pub column: usize,
 }
 
 impl Position {
-    /// A position of its line and column, both from 1.
+    /// Makes a position of a line and a column, both from 1.
     pub const fn new(line: usize, column: usize) -> Position {
         Position { line, column }
     }
 }
 
-/// Room for so many elements.
+/// A buffer for this many elements.
 fn room_for<T: Clone + Default>(out: &mut Vec<T>, room: usize, at: At) -> Result<(), Error> {
     let more = room.saturating_sub(out.len());
     out.try_reserve_exact(more).map_err(|_| Error::Memory(at))?;
@@ -110,10 +110,10 @@ fn room_for<T: Clone + Default>(out: &mut Vec<T>, room: usize, at: At) -> Result
     Ok(())
 }
 
-/// The elements that a call tells, where there is room for so many at first. Where that is too little it is called
-/// again.
+/// Returns the elements that a call writes into a buffer of this size at first. If that is too short, the call is
+/// repeated.
 ///
-/// `call` gets a place, for how many elements there is room, and where it tells how many there are.
+/// `call` gets the address of the buffer, its size, and the address for the number of elements.
 pub(crate) fn listed<T: Clone + Default>(
     room: usize,
     at: At,
@@ -130,7 +130,7 @@ pub(crate) fn listed<T: Clone + Default>(
     done(status, at).map(|()| out)
 }
 
-/// What the library wrote as UTF-8. It is looked at, so that no `str` holds anything else.
+/// Returns what the library wrote as UTF-8. It is checked, so that no `str` holds anything else.
 pub(crate) fn string_of(bytes: Vec<u8>) -> String {
     String::from_utf8(bytes).unwrap_or_else(|e| String::from_utf8_lossy(e.as_bytes()).into_owned())
 }

@@ -1,13 +1,13 @@
 -- Spans of buffers that grow.
 use Rattle.std.proofs.Common.{◌≡◌, ℕ, ◌+◌, ◌-◌, ◌<◌, ◌≤◌, Bool, true, false, cond, List, [], ◌∷◌, ◌++◌, length, take, drop, set, get_or, map, refl, ap, sym, subst, ◌∙◌, inl, inr, append_assoc, arith}
 use Rattle.std.proofs.lemmas.Bool.{cases_eq}
-use Rattle.std.proofs.lemmas.List.{length-append, length-map, map-set, get_or-map, length-set, length-take, length-take-le, length-drop, drop-drop, length_push, take_all, take_at, take-take, drop_at, drop-take, get_or-set_same, get_or-set_other, get_or_append_left}
+use Rattle.std.proofs.lemmas.List.{length-append, length-map, map-set, get_or-map, length-set, length-take, length-take-le, length-drop, drop-drop, length_push, take_all, take_at, take-take, drop_at, drop-take, get_or-set_same, get_or-set_other, get_or_append_left, get_or_default}
 use Rattle.std.proofs.lemmas.List.Sums.{sum_by-set}
 use Rattle.std.proofs.Math.Seq.{map-set_same}
 use Rattle.text_rules.specs.Breaks.{joins_pair}
 use Rattle.chunk_buffers.specs.Buffer.{most_units, Filled, padding, padded}
 use Rattle.chunk_buffers.specs.declared.span.ChunkSpan.{ChunkSpan}
-use Rattle.chunk_buffers.specs.Chunks.{most_buffers, buffer_at, units_at, LiesIn, Extends, EndsLast, unit_count, part_of, last_buffer}
+use Rattle.chunk_buffers.specs.Chunks.{most_buffers, buffer_at, units_at, LiesIn, Extends, EndsLast, unit_count, at_most_64_bits, part_of, last_buffer, AreChunks}
 
 module _ (front whole : List ℕ) (is_front : take (length front) whole ≡ front) where
   front_le : length front ≤ length whole
@@ -70,6 +70,15 @@ padded_count : (buffer : List ℕ) (b : Bool) → length (cond b (buffer ++ padd
 padded_count buffer true = omega (arith, length_push buffer padding)
 padded_count buffer false = omega arith
 
+padded_least : (buffer : List ℕ) (b : Bool) → length buffer ≤ length (cond b (buffer ++ padding ∷ []) buffer)
+padded_least buffer true = omega (arith, length_push buffer padding)
+padded_least buffer false = omega arith
+
+-- a buffer that is appended to has no fewer units
+pub appended_least : (buffer text new : List ℕ) → new ≡ padded buffer text ++ text → length buffer ≤ length new
+appended_least buffer text new is =
+    omega (arith, ap length is, length-append (padded buffer text) text, padded_least buffer (joins_pair buffer text))
+
 module _ (bs : List (List ℕ)) (number start units : ℕ) (text new : List ℕ) (inside : number < length bs)
     (new_is : new ≡ padded (buffer_at bs number) text ++ text) (start_is : start ≡ length (padded (buffer_at bs number) text)) (units_is : units ≡ length text) where
   abbrev appended : ChunkSpan
@@ -111,6 +120,10 @@ module _ (bs : List (List ℕ)) (number start units : ℕ) (text new : List ℕ)
         length-append (padded (buffer_at bs number) text) text,
         padded_count (buffer_at bs number) (joins_pair (buffer_at bs number) text),
       )
+
+  -- and exactly how many the buffers have more
+  pub appended_total : unit_count (set bs number new) + length (buffer_at bs number) ≡ unit_count bs + length new
+  appended_total = omega (arith, sum_by-set length bs number new [] inside)
 
   pub appended_last : number + 1 ≡ length bs → EndsLast bs (set bs number new) appended text
   appended_last last = record {
@@ -157,3 +170,44 @@ pub same_units : (items : List Filled) (number : ℕ) (old new : Filled) → old
     → map (λ b. b.units) (set items number new) ≡ map (λ b. b.units) items
 same_units items number old new old_is units_are =
     map-set_same (λ (b : Filled). b.units) items number new old (units_are ∙ ap (λ (b : Filled). b.units) old_is)
+
+pub last_set : (items : List Filled) (number : ℕ) (new : Filled) → number + 1 ≡ length items → last_buffer (set items number new) ≡ new
+last_set items number new last =
+    let there : length (set items number new) - 1 ≡ number = omega (arith, length-set items number new, last) in
+    ap (λ n. get_or (set items number new) n (record { units = []; room = 0; break_room = 0 })) there
+    ∙ get_or-set_same items number new (record { units = []; room = 0; break_room = 0 }) (omega (arith, last))
+
+pub last_is : (items : List Filled) (number : ℕ) (old : Filled) → number + 1 ≡ length items → old ≡ get_or items number old → last_buffer items ≡ old
+last_is items number old last old_is =
+    let there : length items - 1 ≡ number = omega (arith, last) in
+    ap (λ n. get_or items n (record { units = []; room = 0; break_room = 0 })) there
+    ∙ get_or_default items number (record { units = []; room = 0; break_room = 0 }) old (omega (arith, last)) ∙ sym old_is
+
+-- where another buffer with the same units takes the place of the last one, and has room for so many breaks
+pub AreChunks-set : (items : List Filled) (number : ℕ) (old new : Filled) (units spare breaks : ℕ) → AreChunks items units spare → number + 1 ≡ length items
+    → old ≡ get_or items number old → new.units ≡ old.units → breaks ≤ new.break_room → AreChunks (set items number new) units breaks
+AreChunks-set items number old new units spare breaks are last old_is units_are enough = record {
+  breaks = omega (arith, enough, ap (λ b. b.break_room) (last_set items number new last));
+  few = omega (arith, are.few, length-set items number new);
+  total = are.total ∙ ap (λ bs. at_most_64_bits (unit_count bs)) (sym (same_units items number old new old_is units_are));
+}
+
+counted_on : (a more : ℕ) → at_most_64_bits (at_most_64_bits a + more) ≡ at_most_64_bits (a + more)
+counted_on a more = omega arith
+
+-- where so many units were appended to the last buffer, and it has room for so many breaks
+pub AreChunks-appended : (items : List Filled) (number : ℕ) (old new : Filled) (units more total spare breaks : ℕ) → AreChunks items units spare → number + 1 ≡ length items
+    → old ≡ get_or items number old → length old.units + more ≡ length new.units → total ≡ at_most_64_bits (units + more) → breaks ≤ new.break_room
+    → AreChunks (set items number new) total breaks
+AreChunks-appended items number old new units more total spare breaks are last old_is grown total_is enough =
+    let inside : number < length items = omega (arith, last) in
+    let bs : List (List ℕ) = map (λ b. b.units) items in
+    let here : buffer_at bs number ≡ old.units = get_or-map (λ (b : Filled). b.units) items number old [] inside ∙ ap (λ (b : Filled). b.units) (sym old_is) in
+    let within : number < length bs = omega (arith, length-map items (λ (b : Filled). b.units)) in
+    let count : unit_count (set bs number new.units) ≡ unit_count bs + more =
+    omega (arith, sum_by-set length bs number new.units [] within, ap length here, grown) in record {
+      breaks = omega (arith, enough, ap (λ b. b.break_room) (last_set items number new last));
+      few = omega (arith, are.few, length-set items number new);
+      total = total_is ∙ ap (λ n. at_most_64_bits (n + more)) are.total ∙ counted_on (unit_count bs) more ∙ ap at_most_64_bits (sym count)
+          ∙ ap (λ ls. at_most_64_bits (unit_count ls)) (sym (map-set (λ (b : Filled). b.units) items number new));
+    }

@@ -1,5 +1,5 @@
 -- Texts that lie in buffers, which only grow at their ends.
-use Rattle.std.specs.Prelude.{ℕ, ◌≡◌, ◌+◌, ◌-◌, ◌<◌, ◌≤◌, ◌^◌, List, [], length, take, drop, sum_by, slice_index_or}
+use Rattle.std.specs.Prelude.{ℕ, ◌≡◌, ◌+◌, ◌-◌, ◌<◌, ◌≤◌, ◌^◌, List, [], length, take, drop, map, min, sum_by, slice_index_or}
 use Rattle.chunk_buffers.specs.declared.span.ChunkSpan.{ChunkSpan}
 use Rattle.chunk_buffers.specs.Buffer.{Filled, most_units, padded}
 
@@ -45,6 +45,10 @@ pub record EndsLast (old new : List (List ℕ)) (span : ChunkSpan) (text : List 
 abbrev pub unit_count : List (List ℕ) → ℕ
 unit_count buffers = sum_by length buffers
 
+-- the number, or the greatest of 64 bits
+abbrev pub at_most_64_bits : ℕ → ℕ
+at_most_64_bits n = min n (2 ^ 64 - 1)
+
 -- the units of a span between two places in it
 abbrev pub part_of : ChunkSpan → ℕ → ℕ → ChunkSpan
 part_of span from to = record { buffer = span.buffer; start = span.start + from; units = to - from }
@@ -52,3 +56,9 @@ part_of span from to = record { buffer = span.buffer; start = span.start + from;
 -- the buffer that texts are appended to
 abbrev pub last_buffer : List Filled → Filled
 last_buffer buffers = slice_index_or buffers (length buffers - 1) (record { units = []; room = 0; break_room = 0 })
+
+-- There are no more buffers than can be numbered. Their units are counted, and the last one has room for the breaks that are promised.
+pub record AreChunks (buffers : List Filled) (units spare_breaks : ℕ) : Type 0 where
+  pub breaks : spare_breaks ≤ (last_buffer buffers).break_room
+  pub few : length buffers ≤ most_buffers
+  pub total : units ≡ at_most_64_bits (unit_count (map (λ b. b.units) buffers))

@@ -2,7 +2,7 @@
 
 ghost use Rattle.std.specs.Prelude.{◌≡◌, ◌+◌, ◌-◌, ◌<◌, ◌≤◌, ◌^◌, ◌++◌, [], length, take, drop, IfOk, OnOk, OnErr, IsTrue};
 ghost use Rattle.chunk_buffers.specs.Buffer.{breaks_to};
-ghost use Rattle.chunk_buffers.specs.Chunks.{units_at, LiesIn, Extends, EndsLast, unit_count, part_of};
+ghost use Rattle.chunk_buffers.specs.Chunks.{units_at, LiesIn, Extends, EndsLast, unit_count, at_most_64_bits, part_of};
 ghost use Rattle.line_starts.specs.Starts.{break_count};
 ghost use Rattle.text_rules.specs.Lines.{line_start};
 
@@ -26,14 +26,16 @@ const MOST_BUFFERS: usize = u32::MAX as usize;
 #[derive(Drop)]
 pub struct Chunks {
     buffers: Vec<Buffer>,
+    /// How many units they hold, or 2^64 - 1 where these are more.
+    units: u64,
     /// For how many breaks there is room.
     spare_breaks: u64,
     alloc: Global,
 }
 
 impl Model for Chunks {
-    ghost use Rattle.std.specs.Prelude.{map, length, ◌≤◌};
-    ghost use Rattle.chunk_buffers.specs.Chunks.{Shown, last_buffer, most_buffers};
+    ghost use Rattle.std.specs.Prelude.{map};
+    ghost use Rattle.chunk_buffers.specs.Chunks.{Shown, AreChunks, last_buffer};
 
     ghost Value = { Shown };
 
@@ -43,7 +45,7 @@ impl Model for Chunks {
       spare_breaks = c.spare_breaks;
     } };
 
-    ghost invariant = { λ c. (c.spare_breaks ≤ (last_buffer c.buffers.items).break_room) × (length c.buffers.items ≤ most_buffers) };
+    ghost invariant = { λ c. AreChunks c.buffers.items c.units c.spare_breaks };
 }
 
 impl Chunks {
@@ -54,9 +56,17 @@ impl Chunks {
     {
         Chunks {
             buffers: Vec::new(alloc),
+            units: 0,
             spare_breaks: 0,
             alloc,
         }
+    }
+
+    /// How many units the buffers hold; 2^64 - 1 where they hold more.
+    pub fn len(&self) -> u64
+        ensures { result ≡ at_most_64_bits (unit_count self.now.buffers) }
+    {
+        self.units
     }
 
     /// Makes room for that many units, where each text takes one more than it has, and for that many breaks. It fails where memory is
@@ -89,10 +99,9 @@ impl Chunks {
         if breaks <= self.spare_breaks {
             return Ok(());
         }
-        if self.buffers.is_empty() {
+        let Some(number) = self.buffers.len().checked_sub(1) else {
             return self.begin_buffer(0, breaks);
-        }
-        let number = self.buffers.len() - 1;
+        };
         self.buffers[number].reserve_breaks(breaks as usize)?;
         self.spare_breaks = breaks;
         Ok(())
@@ -127,6 +136,14 @@ impl Chunks {
         (2 * last.min(MOST_ROOM / 2)).max(LEAST_ROOM)
     }
 
+    /// Whether there is room for that many units and breaks.
+    pub fn has_room(&self, units: u64, breaks: u64) -> bool
+        ensures { IsTrue result
+            → (units ≤ self.now.spare) × (breaks ≤ self.now.spare_breaks) }
+    {
+        units <= self.room() as u64 && breaks <= self.spare_breaks
+    }
+
     // The room of the last buffer.
     fn room(&self) -> usize
         ensures { result ≡ self.now.spare }
@@ -157,9 +174,11 @@ impl Chunks {
     {
         let number = self.buffers.len() - 1;
         let buffer = &mut self.buffers[number];
-        let earlier = buffer.break_count();
+        let (len, earlier) = (buffer.units().len(), buffer.break_count());
         let start = buffer.append(before, text, after);
         let breaks = buffer.break_count() - earlier;
+        let more = buffer.units().len() - len;
+        self.units = self.units.saturating_add(more as u64);
         self.spare_breaks -= breaks;
         let span = ChunkSpan {
             buffer: number as u32,
@@ -188,6 +207,7 @@ impl Chunks {
             return Err(AllocError);
         }
         self.buffers.push(buffer)?;
+        self.units = self.units.saturating_add(len as u64);
         self.spare_breaks = 0;
         let span = ChunkSpan {
             buffer: number as u32,

@@ -125,11 +125,6 @@ impl Weave for Marks {
         first.is(second)
     }
 
-    /// A whole's greatest end does not tell the greatest of its other parts.
-    fn exchanged(whole: Greatest, old: Greatest, new: Greatest) -> Option<Greatest> {
-        None
-    }
-
     fn still() -> i64 {
         0
     }

@@ -53,11 +53,6 @@ impl Weave for RunWeave {
         first == second
     }
 
-    #[tactic(auto, unfolding(rb_rules::specs::Weaving::CanExchange))]
-    fn exchanged(whole: u64, old: u64, new: u64) -> Option<u64> {
-        Some(whole - old + new)
-    }
-
     fn still() {}
 
     fn only_shift() -> Option<()> {

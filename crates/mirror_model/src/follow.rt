@@ -1,4 +1,4 @@
-//! Many events in turn.
+//! Follows many events.
 
 ghost use Rattle.std.specs.Prelude.{◌≡◌, List, ℕ};
 ghost use Rattle.std.specs.List.{All};
@@ -10,10 +10,10 @@ use edit_batches::Event;
 use mirror_rules::{Halt, HaltCause, MirrorError, Tally};
 
 impl Mirror {
-    /// Takes the events in turn, and tells how they were answered. It stops at the first that does not fit, or for which there
-    /// is no memory: the mirror is then as it was before that one. Where each event takes the document's text of its version to that
-    /// of the next one, a mirror with the text of its version has that of its new version then, whatever the events are and however
-    /// often they come, and none is found not to fit.
+    /// Takes the events in order and counts the results. Stops at the first that does not fit or for which memory is short; the mirror is
+    /// then as it was before that event. If each event leads from the document's text of its version to the text of the next one, then a
+    /// mirror with the text of its version has the text of its new version afterwards, however events are lost or repeated, and none of
+    /// them misfits.
     pub fn follow(&mut self, events: &[Event]) -> Result<Tally, Halt>
         ensures events { Follows result self.old self.new events.now }
         ensures texts { (t : ℕ → List ℕ) → All (LeadsAlong t) events.now

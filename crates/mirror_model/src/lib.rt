@@ -1,4 +1,4 @@
-//! A mirror: a second text that follows a document by its events, which may be lost, repeated or come in another order.
+//! A mirror: a second text that follows a document by its events. Events may be lost, repeated or out of order.
 #![tactic(auto)]
 
 mod follow;

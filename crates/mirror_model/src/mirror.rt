@@ -15,7 +15,7 @@ use text_batches::{apply_to_text, need_of_batches};
 use text_buffer::TextBuffer;
 use unit_text::{Flat, Kind};
 
-/// A text that was that of a document at some version.
+/// A copy of a document's text at some version.
 #[derive(Drop)]
 pub struct Mirror {
     version: u64,
@@ -36,7 +36,7 @@ impl Model for Mirror {
 }
 
 impl Mirror {
-    /// A mirror of the document's text at this version, which it takes over.
+    /// Makes a mirror of this text and version. Takes over the vector.
     pub fn of_text(alloc: Global, version: u64, text: Vec<u16>) -> Result<Mirror, AllocError>
         requires { length text.items ≤ most_units }
         ensures { IfOk result (λ m. m ≡ record { version = version; units = text.items }) }
@@ -45,28 +45,28 @@ impl Mirror {
         Ok(Mirror { version, text })
     }
 
-    /// The version of the document whose text it has.
+    /// Returns the version of the text.
     pub fn version(&self) -> u64
         ensures { result ≡ self.now.version }
     {
         self.version
     }
 
-    /// How many units the text has.
+    /// Returns the length of the text in units.
     pub fn len(&self) -> u64
         ensures { result ≡ length self.now.units }
     {
         self.text.len()
     }
 
-    /// How many lines the text has.
+    /// Returns the number of lines.
     pub fn line_count(&self) -> u64
         ensures { result ≡ length (lines_of self.now.units) }
     {
         self.text.line_count()
     }
 
-    /// Appends the content of the line of this number, counted from 1. An error leaves `out` as it was.
+    /// Appends the content of a line, counted from 1. On an error `out` is unchanged.
     pub fn line(&self, n: u64, out: &mut Vec<u16>) -> Result<(), AllocError>
         requires first { 0 < n }
         requires there { n ≤ length (lines_of self.now.units) }
@@ -77,9 +77,9 @@ impl Mirror {
         self.text.line(n, out)
     }
 
-    /// Takes an event. `true` where it was the next one: its batches were carried out, and the version is one more. `false` where
-    /// the mirror is past it, and `Gap` where events before it are missing. Of the next one, `Misfit` where a batch has an end
-    /// above the length of the text of its moment, or would make that text too long. What is not `true` changes nothing.
+    /// Takes an event. Returns true if it was the next one: its batches are carried out and the version goes up by 1. Returns false if the
+    /// mirror has its version already. `Gap` if earlier events are missing; `Misfit` if a batch of the next event has an op beyond the text
+    /// or makes the text too long. Nothing changes unless it returns true.
     pub fn take(&mut self, event: &Event) -> Result<bool, MirrorError>
         ensures { Takes result self.old self.new (taken self.old event.now) }
     {
@@ -99,7 +99,7 @@ impl Mirror {
         Ok(true)
     }
 
-    // Carries out batches that fit, for which room is made before the first change.
+    // Carries out batches that fit. Reserves all room before the first change.
     fn carry_out(&mut self, batches: &[Batch]) -> Result<(), AllocError>
         requires { first_misfit self.old.units batches.now ≡ None }
         ensures version { self.new.version ≡ self.old.version }
@@ -115,7 +115,7 @@ impl Mirror {
     }
 }
 
-// The number of the first batch, from 1 on, that does not fit where a text of so many units goes along with them.
+// Returns the number of the first batch that does not fit a text of this length, counted from 1.
 fn first_misfit(len: u64, batches: &[Batch]) -> Option<u64>
     ensures { (x : List ℕ) → length x ≡ len → result ≡ first_misfit x batches.now }
 {

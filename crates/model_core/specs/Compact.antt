@@ -1,14 +1,12 @@
 -- When the text of a model is written anew, and what the model is then.
-use Rattle.std.specs.Prelude.{◌≡◌, ◌≤◌, ◌%◌, ◌&&◌, ◌==◌, nat_le, Bool, length}
-use Rattle.model_page.specs.declared.compact.TheConstants.{LEAST_COMPACTED, MOST_COMPACTED}
+use Rattle.std.specs.Prelude.{◌≡◌, ◌≤◌, ◌&&◌, ◌==◌, nat_lt, Bool, length}
+use Rattle.chunk_buffers.specs.Chunks.{at_most_64_bits}
+use Rattle.model_page.specs.Compact.{outgrows}
 use Rattle.model_core.specs.State.{ModelState}
-use Rattle.model_core.specs.declared.model.compact.TheConstants.{SEEN_EACH}
 
--- a small text in many pieces, at one version in so many, while no snapshot is open
+-- the buffers hold far more than the text, which has a piece, and no snapshot is open
 abbrev pub is_due : ModelState → Bool
-is_due m =
-    m.document.version % SEEN_EACH == 0 && length m.document.shelf.snapshots == 0
-    && nat_le (length m.document.units) MOST_COMPACTED && nat_le LEAST_COMPACTED m.pieces
+is_due m = length m.document.shelf.snapshots == 0 && (outgrows (length m.document.units) (at_most_64_bits m.held) && nat_lt 0 m.pieces)
 
 -- the document and the last parse are as they were, and the text lies in no more pieces than before
 pub record IsCompacted (old new : ModelState) : Type 0 where

@@ -1,4 +1,4 @@
--- What a call leaves that edits the text.
+-- The model after an edit of the text.
 use Rattle.std.specs.Prelude.{Bool, List, length, Result, ⊤}
 use Rattle.mark_rules.specs.declared.Mark.{Mark}
 use Rattle.text_rules.specs.declared.Op.{Op}
@@ -8,11 +8,11 @@ use Rattle.document_rules.specs.Document.{FlatState}
 use Rattle.model_page.specs.LineMarks.{marked_backwards}
 use Rattle.model_core.specs.State.{ModelState, AfterCall, AfterMove, Leaves}
 
--- the ops as they are carried out: in their order, and with texts of the document's kind
+-- the ops as they are carried out: sorted, and with line endings of the document's kind
 abbrev pub ops_as_done : FlatState → List Op → List Op
 ops_as_done f ops = sorted_ops (ops_in f.kind ops)
 
--- the marks of the lines once the ops were carried out
+-- the marks of the lines after the ops
 abbrev pub marks_edited : ModelState → List Op → List Mark
 marks_edited old ops = marked_backwards old.document.units (ops_as_done old.document ops) old.marks
 
@@ -20,6 +20,6 @@ marks_edited old ops = marked_backwards old.document.units (ops_as_done old.docu
 abbrev pub HasEdited : List Op → Result ⊤ ModelError → ModelState → ModelState → Type 0
 HasEdited ops result old new = AfterCall result (Leaves (length ops) (length ops) (marks_edited old ops)) old new
 
--- other line endings were put in, which mark no line
+-- new line endings were set, which mark no line
 abbrev pub HasRecast : Result Bool ModelError → ModelState → ModelState → Type 0
 HasRecast result old new = AfterMove result (Leaves 1 0 old.marks) old new

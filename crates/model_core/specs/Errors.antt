@@ -1,4 +1,4 @@
--- How the errors of the document's parts are told.
+-- Errors of the parts as errors of a document.
 use Rattle.batch_rules.specs.declared.BatchError.{BatchError}
 use Rattle.batch_rules.specs.declared.BatchError.TheVariants as batch
 use Rattle.decoration_rules.specs.declared.DecoError.{DecoError}

@@ -19,7 +19,7 @@ use Rattle.model_page.specs.declared.change.Change.TheVariants.{Ops}
 abbrev insert : ℕ → Op
 insert at = record { span = record { start = at; end = at }; text = codes "x"; force = false }
 
--- a batch on a text whose lines end as they came
+-- a batch on a text with mixed line endings
 abbrev changed : List ℕ → List Op → List ℕ → FlatChange
 changed before ops after = record {
   before = record { units = before; kind = Mixed };
@@ -27,7 +27,7 @@ changed before ops after = record {
   after = record { units = after; kind = Mixed };
 }
 
--- a batch of two ops, and after it one of a single op
+-- a batch of two ops, and then one of a single op
 abbrev two_batches : Step FlatChange
 two_batches = record {
   changes = changed (codes "a") (insert 0 ∷ insert 1 ∷ []) (codes "xax")
@@ -55,7 +55,7 @@ no_text_takes_inserts_back = refl
 abbrev replace : ℕ → ℕ → List ℕ → Op
 replace start end text = record { span = record { start = start; end = end }; text = text; force = false }
 
--- a break behind `a`, and then a text with two breaks in the place of both
+-- a break after `a`, and then a text with two breaks that replaces both
 abbrev two_changes : Step FlatChange
 two_changes = record {
   changes = changed (codes "a") (replace 1 1 (codes "\n") ∷ []) (codes "a\n")
@@ -71,7 +71,7 @@ the_breaks_of_both_changes = refl
 the_break_that_comes_back : next_break_count Back (two_changes ∷ one_batch ∷ []) ≡ 1
 the_break_that_comes_back = refl
 
--- the lines of `a` and `b` end with LF now
+-- the lines of `a` and `b` get LF
 abbrev other_endings : Step FlatChange
 other_endings = record {
   changes = record {
@@ -93,11 +93,11 @@ the_whole_text_comes_back = refl
 no_line_is_marked : next_marking_count (other_endings ∷ []) ≡ 0
 no_line_is_marked = refl
 
--- two edits, whose texts have five units and one break
+-- two edits, whose texts have five units and one break together
 abbrev two_edits : Need
 two_edits = record { text = record { edits = 2; units = 5; breaks = 1 }; changes = 1 }
 
--- room for them, with so many breaks
+-- room for them, with this many breaks
 abbrev room_with : ℕ → Room
 room_with breaks = record { text = record { edits = 2; units = 135; breaks = breaks }; marks = 2; changes = 1 }
 
@@ -111,7 +111,7 @@ five_breaks_are_enough = record {
 four_breaks_are_one_too_few : IsEnough (room_with 4) two_edits → ⊥
 four_breaks_are_one_too_few enough = omega (arith, enough.text.breaks)
 
--- a document of one line, with room for one edit that puts one unit in
+-- a document of one line, with room for one edit that inserts one unit
 abbrev six_letters : ModelState
 six_letters = record {
   document = new_document (codes "abcdef") standard_scanner Mixed;
@@ -121,10 +121,11 @@ six_letters = record {
   states = borders [] Code;
   fresh = false;
   pieces = 1;
+  held = 6;
   room = record { text = record { edits = 1; units = 66; breaks = 2 }; marks = 1; changes = 1 };
 }
 
--- `x` in the place of `cd`, and what takes it back
+-- `x` replaces `cd`, with the inverse
 abbrev two_by_one : Change
 two_by_one = Ops (replace 2 4 (codes "x") ∷ []) (replace 2 3 (codes "cd") ∷ [])
 

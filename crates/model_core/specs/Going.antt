@@ -1,4 +1,4 @@
--- What an undo or a redo leaves of the last parse and of the pieces.
+-- The last parse and the pieces after an undo or a redo.
 use Rattle.std.specs.Prelude.{Bool, Result}
 use Rattle.document_rules.specs.declared.ModelError.{ModelError}
 use Rattle.model_page.specs.declared.change.Way.{Way}
@@ -7,7 +7,7 @@ use Rattle.model_core.specs.Prepared.{next_op_count, next_marking_count}
 use Rattle.model_core.specs.State.{ModelState, AfterMove, Leaves}
 use Rattle.model_core.specs.Ways.{next_steps}
 
--- as the ops of the step do that comes next on the way
+-- as after the ops of the next step
 abbrev pub HasGone : Way → Result Bool ModelError → ModelState → ModelState → Type 0
 HasGone way result old new =
     let steps = next_steps way old.document.history in

@@ -1,4 +1,4 @@
--- What a new model with a text is.
+-- A new model with a text.
 use Rattle.std.specs.Prelude.{◌≡◌, ◌≤◌, ℕ, false, List, length, replicate, None, Result, Ok, Err, ⊤}
 use Rattle.text_rules.specs.Lines.{lines_of}
 use Rattle.mark_rules.specs.declared.Mark.TheVariants.{New}
@@ -8,12 +8,12 @@ use Rattle.document_rules.specs.Outcomes.{RefusedFor}
 use Rattle.document_rules.specs.Document.{FlatState}
 use Rattle.model_core.specs.State.{ModelState, AfterCall}
 
--- it stands for the rule's new document, or is refused for the rule's reason
+-- it represents the rule's new document, or the call fails for the rule's reason
 abbrev pub Opens : Result ModelState ModelError → Result FlatState FlatRefusal → Type 0
 Opens (Ok m) rule = rule ≡ Ok m.document
 Opens (Err e) rule = RefusedFor e rule
 
--- nothing of the text was parsed, and it lies in one piece
+-- the text was not parsed and is one piece
 pub record IsUnparsed (units : List ℕ) (m : ModelState) : Type 0 where
   pub parsed : m.parsed ≡ None
   pub tree : m.tree ≡ None
@@ -21,6 +21,6 @@ pub record IsUnparsed (units : List ℕ) (m : ModelState) : Type 0 where
   pub fresh : m.fresh ≡ false
   pub pieces : m.pieces ≤ 1
 
--- a new model took the place of the old one, or was refused
+-- a new model replaced the old one, or the call failed
 abbrev pub HasOpened : List ℕ → Result ⊤ ModelError → ModelState → ModelState → Type 0
 HasOpened units result old new = AfterCall result (λ _ m. IsUnparsed units m) old new

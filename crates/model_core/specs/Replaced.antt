@@ -1,4 +1,4 @@
--- What a replace of all that is found leaves of the last parse and of the pieces, and why it is refused.
+-- A replacement of all occurrences: the last parse and the pieces after it, and its errors.
 use Rattle.std.specs.Prelude.{◌≡◌, ◌<◌, ℕ, List, [], length, Bool, Option, Some, None, Result, Ok, Err, ⊤}
 use Rattle.text_rules.specs.declared.Op.{Op}
 use Rattle.document_rules.specs.declared.ModelError.{ModelError}
@@ -11,7 +11,7 @@ use Rattle.model_core.specs.Edited.{ops_as_done}
 use Rattle.model_core.specs.Prepared.{Prepared, IsEditReady}
 use Rattle.model_core.specs.State.{ModelState, AfterMove, Leaves}
 
--- for want of room: a limit, or memory
+-- errors for lack of room: a limit, or memory
 abbrev pub IsForRoom : ModelError → Type 0
 IsForRoom Limit = ⊤
 IsForRoom Memory = ⊤
@@ -19,22 +19,22 @@ IsForRoom Unknown = ⊥
 IsForRoom Range = ⊥
 IsForRoom Overlap = ⊥
 
--- the ops that put the text in the place of all that is found
+-- the ops that replace all occurrences
 abbrev pub replacing_ops : FlatState → List ℕ → List ℕ → List Op
 replacing_ops f sought text = replacing (flat_find f sought) text
 
--- as these ops do
+-- as after these ops
 abbrev pub HasReplaced : List ℕ → List ℕ → Result Bool ModelError → ModelState → ModelState → Type 0
 HasReplaced sought text result old new =
     let f = old.document in let ops = replacing_ops f sought text in
     AfterMove result (Leaves (length ops) (length ops) (marked_backwards f.units (ops_as_done f ops) old.marks)) old new
 
--- the ops are prepared, which are some
+-- the ops are prepared, at least one
 pub record IsReplaceReady (sought text : List ℕ) (now : ModelState) (prepared : Prepared) : Type 0 where
   pub some : 0 < length (replacing_ops now.document sought text)
   pub ready : IsEditReady (replacing_ops now.document sought text) now prepared
 
--- nothing is prepared exactly where nothing is found
+-- None exactly if there is no occurrence
 abbrev pub PreparesReplace : List ℕ → List ℕ → Result (Option Prepared) ModelError → ModelState → Type 0
 PreparesReplace sought text (Ok (Some ready)) now = IsReplaceReady sought text now ready
 PreparesReplace sought text (Ok None) now = replacing_ops now.document sought text ≡ []

@@ -10,39 +10,41 @@ use Rattle.document_rules.specs.Document.{FlatState}
 use Rattle.text_batches.specs.Growth.{GrownBy}
 use Rattle.model_page.specs.Asked.{ReadTree, AreStatesOf, HasRead, KeptBy, HasLowTree}
 
--- the room that was made for changes
+-- the reserved room for changes
 pub record Room : Type 0 where
-  -- for edits of the text, and for how many edits of the marks of its lines
+  -- for edits of the text, and the number of edits of the marks of its lines
   pub text : text_room.Room
   pub marks : ℕ
-  -- for how many changes more that are kept for undo
+  -- the number of further changes that can be kept for undo
   pub changes : ℕ
 
--- the old room is still there
+-- there is at least the old room
 pub record KeepsRoom (old new : Room) : Type 0 where
   pub text : text_room.KeepsRoom old.text new.text
   pub marks : old.marks ≤ new.marks
   pub changes : 0 < old.changes → 0 < new.changes
 
 pub record ModelState : Type 0 where
-  -- the flat document that the model stands for
+  -- the flat document that the model represents
   pub document : FlatState
-  -- the last parse, be it of the text of now or of an earlier one: its tree, and which lines were read for it
+  -- the last parse, of the present text or an earlier one: its tree, and the lines that were read for it
   pub parsed : Option ReadTree
   -- its bracket tree
   pub tree : Option Tree
-  -- what each line of the text of now is to that parse; new, where there was none
+  -- a mark for each line of the present text: a line of that parse, or new
   pub marks : List Mark
-  -- in which states the lines of that parse began
+  -- the states in which the lines of that parse began
   pub states : Borders
-  -- whether that tree is the one of the text of now
+  -- whether that tree is of the present text
   pub fresh : Bool
-  -- in how many pieces the text lies
+  -- the number of pieces of the text
   pub pieces : ℕ
-  -- what can be changed without taking memory
+  -- the number of units in its buffers
+  pub held : ℕ
+  -- changes that need no allocation
   pub room : Room
 
--- what so many ops leave of the last parse and of the pieces, of which so many mark lines, and these are the marks then
+-- the last parse and the pieces after `ops` ops, of which `marking` mark lines; `marked` are the new marks
 pub record Leaves (ops marking : ℕ) (marked : List Mark) (old new : ModelState) : Type 0 where
   pub parsed : new.parsed ≡ old.parsed
   pub tree : new.tree ≡ old.tree
@@ -51,7 +53,7 @@ pub record Leaves (ops marking : ℕ) (marked : List Mark) (old new : ModelState
   pub fresh : KeptBy marking old.fresh new.fresh
   pub pieces : GrownBy ops old.pieces new.pieces
 
--- the last parse, what the lines are to it, and the pieces are as they were, and room that was there stays
+-- the last parse, the marks and the pieces are unchanged, and there is at least the old room
 pub record KeepsParse (old new : ModelState) : Type 0 where
   pub parsed : new.parsed ≡ old.parsed
   pub tree : new.tree ≡ old.tree
@@ -61,19 +63,19 @@ pub record KeepsParse (old new : ModelState) : Type 0 where
   pub pieces : new.pieces ≡ old.pieces
   pub room : KeepsRoom old.room new.room
 
--- of a call that leaves this where it is accepted; a refused one keeps the last parse, the pieces and the room
+-- `left` holds if the call succeeded; after an error the last parse and the pieces are unchanged, and there is at least the old room
 abbrev pub AfterCall : Result ⊤ ModelError → (ModelState → ModelState → Type 0) → ModelState → ModelState → Type 0
 AfterCall (Ok x) left old new = left old new
 AfterCall (Err e) left old new = KeepsParse old new
 
--- the same of a call that answers whether there was anything to do
+-- `AfterCall` for a call that may have nothing to do
 abbrev pub AfterMove : Result Bool ModelError → (ModelState → ModelState → Type 0) → ModelState → ModelState → Type 0
 AfterMove (Ok true) left old new = left old new
 AfterMove (Ok false) left old new = KeepsParse old new
 AfterMove (Err e) left old new = KeepsParse old new
 
--- What a question about brackets leaves: it parses the text where the tree is not that of the text of now, reads the lines
--- alone that are new or begin in another state, and keeps each line then. An error leaves all as it was. Room that was there stays.
+-- The model after a question about brackets. The text is parsed unless the last parse is of the present text. Only lines that are new or
+-- begin in another state are read. On an error all is unchanged. There is at least the old room.
 pub record Renews {A : Type 0} (result : Result A ModelError) (old new : ModelState) : Type 0 where
   pub document : new.document ≡ old.document
   pub pieces : new.pieces ≡ old.pieces

@@ -1,4 +1,4 @@
-//! How the errors of the parts are told.
+//! The errors of the parts as those of a document.
 
 ghost use Rattle.std.specs.Prelude.{◌≡◌};
 ghost use Rattle.model_core.specs.Errors.{error_of, refusal_of, shelf_error_of, recast_error_of};

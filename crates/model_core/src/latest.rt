@@ -5,10 +5,10 @@ ghost use Rattle.model_core.specs.History.{latest_along, way_to};
 
 use model_page::Way;
 
-/// What the last change was.
+/// The kind of the last change.
 #[derive(Clone, Copy)]
 pub(crate) enum Latest {
-    /// An edit, or other line endings.
+    /// An edit, or new line endings.
     Made,
     /// An undo.
     TakenBack,
@@ -17,7 +17,7 @@ pub(crate) enum Latest {
 }
 
 impl Latest {
-    /// That of a step that was gone along this way.
+    /// The kind of a change that goes this way.
     pub fn along(way: Way) -> Latest
         ensures { result ≡ latest_along way }
     {
@@ -27,7 +27,7 @@ impl Latest {
         }
     }
 
-    /// The way on which its step comes next.
+    /// The way on which its step is next.
     pub fn way(self) -> Way
         ensures { result ≡ way_to self }
     {

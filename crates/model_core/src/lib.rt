@@ -1,4 +1,4 @@
-//! The document: a text that is changed by edits, its versions, its decorations, and what can be undone.
+//! The document: a text with edits, versions, decorations, undo and redo.
 #![tactic(auto)]
 
 mod errors;

@@ -21,7 +21,7 @@ use model_page::{Change, Page};
 use snapshots::Shelf;
 use std::alloc::Global;
 
-/// A document: its page, which version of it that is, what can be undone and redone, and texts of earlier moments.
+/// A document: its page, its versions, its steps of undo and redo, and its snapshots.
 #[derive(Drop)]
 pub struct Model {
     alloc: Global,
@@ -41,6 +41,7 @@ impl std::marker::Model for Model {
     ghost use Rattle.model_page.specs.Asked.{read_tree_code};
     ghost use Rattle.model_page.specs.State.{flat_text, is_fresh};
     ghost use Rattle.model_core.specs.State.{ModelState};
+    ghost use Rattle.chunk_buffers.specs.Chunks.{unit_count};
     ghost use Rattle.snapshots.specs.Shown.{shown};
     ghost use Rattle.model_core.specs.Shelving.{IsShelf};
     ghost use Rattle.model_core.specs.History.{history_of, last_of, HasLatest, IsHistory};
@@ -67,6 +68,7 @@ impl std::marker::Model for Model {
       states = m.page.states;
       fresh = is_fresh m.page;
       pieces = length m.page.text.spans;
+      held = unit_count m.page.text.buffers;
       room = record {
         text = m.page.text.room;
         marks = m.page.spare;

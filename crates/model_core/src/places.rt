@@ -8,7 +8,7 @@ ghost use Rattle.document_rules.specs.Brackets.{place_of, position_at, IsSmall};
 use text_buffer::TextBuffer;
 use text_lengths::{Length, Position};
 
-/// The lines before the position, and the units before it in its line.
+/// Returns the lines before the position, and the units before it in its line.
 pub(crate) fn place_of(p: Position) -> Length
     ensures { result ≡ place_of p }
 {
@@ -18,7 +18,7 @@ pub(crate) fn place_of(p: Position) -> Length
     }
 }
 
-/// The place as a position, beside its number of units.
+/// Converts the place into a position; the units stay.
 pub(crate) fn told(spot: Option<(Length, u64)>) -> Option<(Position, u64)>
     requires { IfSome spot (λ s. IsSmall s.0) }
     ensures { result ≡ option_map (λ s. (position_at s.0, s.1)) spot }
@@ -31,7 +31,7 @@ pub(crate) fn told(spot: Option<(Length, u64)>) -> Option<(Position, u64)>
     Some((p, len))
 }
 
-/// Whether the position is one of the text.
+/// Returns whether the position is valid in the text.
 pub(crate) fn is_position(text: &TextBuffer, p: Position) -> bool
     ensures { result ≡ is_position text.now.units p }
 {

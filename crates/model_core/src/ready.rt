@@ -1,4 +1,4 @@
-//! Changes of the document that were prepared.
+//! Prepared changes of a document.
 
 ghost use Rattle.std.specs.Prelude.{◌≡◌, ◌+◌, ◌<◌, ◌≤◌};
 ghost use Rattle.document_rules.specs.Document.{greatest_version};
@@ -7,22 +7,22 @@ use model_page::{Change, Way};
 use std::marker::Model;
 use unit_text::Kind;
 
-/// What a prepared change does.
+/// The effect of a prepared change.
 #[derive(Drop)]
 pub(crate) enum Action {
-    /// The change is made.
+    /// Makes this change.
     Make(Change),
-    /// The step that comes next is undone or made again.
+    /// Carries out the next undo or redo.
     Move(Way),
 }
 
-/// A change of the document that was prepared: what `commit` carries out on a document of that version, whose line endings are of
-/// that kind. Contracts see the version, the kind and the action.
+/// A prepared change, for `commit` on a document of this version and this kind of line endings. Contracts see the version before it, the
+/// kind and the action.
 #[derive(Drop)]
 pub struct Ready {
-    /// The version that it makes.
+    /// The version after the change.
     next: u64,
-    /// The kind of line ending that it was prepared on.
+    /// The kind of line endings before the change.
     kind: Kind,
     action: Action,
 }
@@ -40,7 +40,7 @@ impl Model for Ready {
 }
 
 impl Ready {
-    /// The action, which makes this version of a document of the kind.
+    /// Makes one from the version after it, the kind and the action.
     pub(crate) fn making(next: u64, kind: Kind, action: Action) -> Ready
         requires first { 0 < next }
         requires last { next ≤ greatest_version }
@@ -51,7 +51,7 @@ impl Ready {
         Ready { next, kind, action }
     }
 
-    /// The version that it makes, and the action.
+    /// Returns the version after the change, and the action.
     pub(crate) fn into_parts(self) -> (u64, Action)
         ensures next { result.0 ≡ self.version + 1 }
         ensures last { result.0 ≤ greatest_version }

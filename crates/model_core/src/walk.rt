@@ -1,4 +1,4 @@
-//! Steps of undo: the one that comes next, on either way, and the one that a change joins or begins.
+//! Steps of undo: the next one on either way, and the one that a change joins or begins.
 
 ghost use Rattle.std.specs.Prelude.{◌≡◌, ◌<◌, length, slice_get, is_some, option_map};
 ghost use Rattle.std.specs.Option.{option_copied};
@@ -9,7 +9,7 @@ ghost use Rattle.model_core.specs.Ways.{next_steps, passed, alternative_after};
 use edit_stack::{EditStack, Element};
 use model_page::{Change, Way};
 
-/// The step that comes next on the way.
+/// Returns the next step on the way.
 pub(crate) fn next_step(history: &EditStack<Change>, way: Way) -> Option<&Element<Change>>
     ensures { option_map step_of (option_copied result)
         ≡ slice_get (next_steps way history.now.stack) 0 }
@@ -20,7 +20,7 @@ pub(crate) fn next_step(history: &EditStack<Change>, way: Way) -> Option<&Elemen
     }
 }
 
-/// Whether a step comes next on the way.
+/// Returns whether there is a next step on the way.
 #[tactic(auto, using(crate::proofs::Stepping::mapped_twice))]
 pub(crate) fn has_next(history: &EditStack<Change>, way: Way) -> bool
     ensures { result ≡ is_some (slice_get (next_steps way history.now.stack) 0) }
@@ -28,7 +28,7 @@ pub(crate) fn has_next(history: &EditStack<Change>, way: Way) -> bool
     next_step(history, way).is_some()
 }
 
-/// The alternative version at the end of the step.
+/// Returns the alternative version after the step.
 pub(crate) fn alternative_after(step: &Element<Change>, way: Way) -> u64
     ensures { result ≡ alternative_after way (step_of step.now) }
 {
@@ -38,7 +38,7 @@ pub(crate) fn alternative_after(step: &Element<Change>, way: Way) -> u64
     }
 }
 
-/// The step that came next was passed.
+/// Moves the next step to the other list.
 pub(crate) fn pass_step(history: &mut EditStack<Change>, way: Way)
     requires { 0 < length (next_steps way history.old.stack) }
     ensures { history.new.stack ≡ passed way history.old.stack }
@@ -49,7 +49,7 @@ pub(crate) fn pass_step(history: &mut EditStack<Change>, way: Way)
     }
 }
 
-/// The change was made, from one alternative version to another. There is room for it.
+/// Adds a change, with the alternative versions before and after it. Room for it is reserved.
 pub(crate) fn keep(history: &mut EditStack<Change>, change: Change, before: u64, after: u64)
     requires { 0 < history.old.spare }
     ensures { history.new.stack ≡ kept_with history.old.stack change before after }
@@ -63,7 +63,7 @@ pub(crate) fn keep(history: &mut EditStack<Change>, change: Change, before: u64,
     }
 }
 
-// Whether the change is a step of its own.
+// Returns whether the change is its own step.
 fn is_alone(change: &Change) -> bool
     ensures { result ≡ is_alone change.now }
 {

@@ -1,4 +1,4 @@
--- What calls on the models of documents say.
+-- Calls on the models of documents.
 use Rattle.std.specs.Prelude.{ℕ, Bool, true, false, List, Option, Some, None, Result, Ok, Err, ⊤}
 use Rattle.text_rules.specs.declared.Op.{Op}
 use Rattle.undo_rules.specs.declared.Tag.{Tag}
@@ -17,14 +17,14 @@ use Rattle.model_core.specs.State.{ModelState, KeepsParse}
 use Rattle.model_group.specs.State.{GroupState, EachModel, KeepAllParses, documents}
 use Rattle.model_group.specs.Prepared.{going_along}
 
--- the text of now was kept, under the id that is answered
+-- a snapshot of the present text was opened, with the id that is returned
 abbrev pub Shelves : Result ℕ ModelError → ModelState → ModelState → Type 0
 Shelves result old new =
     ChangesWith old.document.shelf.next_id result old.document new.document (flat_snapshot old.document) × KeepsParse old new
 
 -- ---- calls on several documents
 
--- the model of a document that has a batch, and of one that has none
+-- the model of a document with a batch, or without one
 abbrev pub HasJoined : Option (List Op) → ModelState → ModelState → Type 0
 HasJoined (Some ops) old new = HasEdited ops (Ok tt) old new
 HasJoined None old new = KeepsParse old new
@@ -33,22 +33,22 @@ abbrev pub AllJoin : List FlatBatch → Result ⊤ GroupError → GroupState →
 AllJoin batches (Ok x) old new = EachModel (λ n m k. HasJoined (batch_for n batches) m k) old new
 AllJoin batches (Err e) old new = KeepAllParses old new
 
--- the model of a document that goes its next step, and of one that stays
+-- the model of a document that carries out its next step, or keeps its parse
 abbrev pub GoesOrStays : Way → Bool → ModelState → ModelState → Type 0
 GoesOrStays way true old new = HasGone way (Ok true) old new
 GoesOrStays way false old new = KeepsParse old new
 
--- these documents go their next step, if there is one, and the others stay
+-- these documents carry out their next step, if there is one, and the other models keep their parse
 abbrev pub TheyGo : Way → (ℕ → Bool) → Result Bool GroupError → GroupState → GroupState → Type 0
 TheyGo way docs (Ok true) old new = EachModel (λ n m k. GoesOrStays way (docs n) m k) old new
 TheyGo way docs (Ok false) old new = KeepAllParses old new
 TheyGo way docs (Err e) old new = KeepAllParses old new
 
--- the tag of the step that comes next in the document of this number
+-- the tag of the next step in this document
 abbrev pub next_tag : Way → GroupState → ℕ → Option Tag
 next_tag way g doc = front_tag ((going_along way).steps (doc_in (documents g) doc))
 
--- that document, and those that go this step with it
+-- that document, and those that share its next step
 abbrev pub going_with : Way → GroupState → ℕ → ℕ → Bool
 going_with way g doc = gone_with doc (next_tag way g doc)
 

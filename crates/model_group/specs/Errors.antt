@@ -1,4 +1,4 @@
--- How the refusals of one document are told of several.
+-- Errors of one document as errors of a group.
 use Rattle.document_rules.specs.declared.ModelError.{ModelError}
 use Rattle.document_rules.specs.declared.ModelError.TheVariants as one
 use Rattle.group_rules.specs.declared.GroupError.{GroupError}

@@ -18,7 +18,7 @@ use Rattle.model_core.specs.State.{ModelState, KeepsParse}
 use Rattle.model_group.specs.Calls.{HasJoined, AllJoin, GoesOrStays, AllGo, going_with}
 use Rattle.model_group.specs.State.{GroupState, EachModel, ActsOn, documents}
 
--- a model of the document, whose text lies in so many pieces
+-- a model of the document, whose text has this many pieces
 abbrev model : FlatState → ℕ → ModelState
 model f pieces = record {
   document = f;
@@ -28,6 +28,7 @@ model f pieces = record {
   states = record { begins = []; ends = Code };
   fresh = false;
   pieces = pieces;
+  held = 0;
   room = record { text = record { edits = 1; units = 66; breaks = 2 }; marks = 1; changes = 1 };
 }
 
@@ -54,11 +55,11 @@ moved (Ok (Some g)) = g
 moved (Ok None) = []
 moved (Err why) = []
 
--- models of these documents, whose texts lie in so many pieces
+-- models of these documents, whose texts have this many pieces
 abbrev models : FlatGroup → ℕ → ℕ → ℕ → GroupState
 models g a b c = model (doc_in g 0) a ∷ model (doc_in g 1) b ∷ model (doc_in g 2) c ∷ []
 
--- what holds of each of three models
+-- a relation of three models, shown for each
 each_of_three : (P : ℕ → ModelState → ModelState → Type 0) (a b c x y z : ModelState) → P 0 a x → P 1 b y → P 2 c z
     → EachModel P (a ∷ b ∷ c ∷ []) (x ∷ y ∷ z ∷ [])
 each_of_three P a b c x y z p q r zero m k was is = let old : a ≡ m = cc in let new : x ≡ k = cc in subst₂ (P 0) old new p
@@ -66,7 +67,7 @@ each_of_three P a b c x y z p q r (suc zero) m k was is = let old : b ≡ m = cc
 each_of_three P a b c x y z p q r (suc (suc zero)) m k was is = let old : c ≡ m = cc in let new : z ≡ k = cc in subst₂ (P 2) old new r
 each_of_three P a b c x y z p q r (suc (suc (suc n))) m k was is = absurd cc
 
--- one of them stays
+-- a model with one piece keeps its parse
 stays : (f g : FlatState) → KeepsParse (model f 1) (model g 1)
 stays f g = record {
   parsed = refl;
@@ -98,7 +99,7 @@ an_insert_adds_two_pieces_at_most =
     (record { parsed = refl; tree = refl; states = refl; marks = refl; fresh = refl; pieces = omega arith })
     (stays (letter (codes "c")) (letter (codes "c")))
 
--- ---- an undo in one of them, which goes in both
+-- ---- an undo in one of the two, which undoes both
 
 abbrev undone : GroupState
 undone = models (moved (group_undo (documents joined) 1)) 5 2 1
@@ -128,12 +129,12 @@ an_edit_acts_on_its_document =
     )
     (λ same. absurd (omega arith), λ other. stays (letter (codes "c")) (letter (codes "c")))
 
--- ---- what documents share
+-- ---- shared steps
 
 abbrev versions : List Tag → List ℕ
 versions tags = map (λ (tag : Tag). tag.version) tags
 
--- a second joint edit of the same two
+-- a second joint edit of the same two documents
 abbrev joined_twice : FlatGroup
 joined_twice = after (group_joint (documents joined) batches)
 
@@ -143,7 +144,7 @@ both_share_the_last_step_first = refl
 they_stand_in_one_order_in_both : shared_with 0 (undo_tags joined_twice 1) ≡ shared_with 1 (undo_tags joined_twice 0)
 they_stand_in_one_order_in_both = refl
 
--- the steps of one of them in the other order
+-- the steps of one document in reverse order
 abbrev turned : FlatState → FlatState
 turned f = record f { history = record f.history { undo = reverse f.history.undo } }
 

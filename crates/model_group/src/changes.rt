@@ -1,4 +1,4 @@
-//! Changes of one document. What it could redo goes with them, and steps of others that were made at once are theirs alone then.
+//! Changes of one document. Each clears its redo steps. A joint step that is lost here becomes an ordinary step of the other documents.
 
 ghost use Rattle.std.specs.Prelude.{◌<◌, length};
 ghost use Rattle.hiding_rules.specs.Hidden.{scanner};
@@ -22,7 +22,7 @@ use document_rules::ModelError;
 use model_core::{BracketTable, Hiding, Kind, Model, Op, Ready};
 
 impl Group {
-    /// Puts a new document in place of the one of this number, as `Model::open_doc` does.
+    /// Replaces this document by a new one, as `Model::open_doc` does.
     pub fn open_doc(
         &mut self,
         doc: u64,
@@ -46,7 +46,7 @@ impl Group {
         Ok(())
     }
 
-    /// Carries out the edits at once, as `Model::edit` does.
+    /// Carries out a batch of edits, as `Model::edit` does.
     pub fn edit(&mut self, doc: u64, ops: Vec<Op>) -> Result<(), ModelError>
         requires { doc < DOC_COUNT }
         ensures documents { Changes result (documents self.old) (documents self.new)
@@ -60,7 +60,7 @@ impl Group {
         Ok(())
     }
 
-    /// Changes the line endings to those of the kind, as `Model::set_eol` does.
+    /// Changes all line endings to this kind, as `Model::set_eol` does.
     pub fn set_eol(&mut self, doc: u64, kind: Kind) -> Result<bool, ModelError>
         requires { doc < DOC_COUNT }
         ensures documents { Moves result (documents self.old) (documents self.new)
@@ -76,7 +76,7 @@ impl Group {
         Ok(true)
     }
 
-    /// Puts a text in the place of all that is found, as `Model::replace_all` does.
+    /// Replaces all occurrences of a text, as `Model::replace_all` does.
     pub fn replace_all(
         &mut self,
         doc: u64,
@@ -120,7 +120,7 @@ impl Group {
         self.models[doc as usize].prepare_replace_all(sought, with)
     }
 
-    // Carries out a change that was prepared, after what the document could redo is lost.
+    // Clears the document's redo steps, then carries out a prepared change.
     fn commit(&mut self, one: DocReady, manner: Manner)
         requires ready { IsReadyIn (CanIn manner) self.old one }
         requires change { IsChangeIn manner one.ready.action }

@@ -1,4 +1,4 @@
-//! Calls on one document that no other one knows of. Each does what the call of its name does on `Model`.
+//! Calls that concern one document only. Each does what the call of its name does on `Model`.
 
 ghost use Rattle.std.specs.Prelude.{◌≡◌, ◌<◌, Err};
 ghost use Rattle.group_rules.specs.declared.TheConstants.{DOC_COUNT};
@@ -19,7 +19,7 @@ use model_core::{Entry, NewDeco, Position};
 use steps::Steps;
 
 impl Group {
-    /// The next edit of the document begins a step of undo.
+    /// Makes the next edit of the document begin a step of undo.
     pub fn stop(&mut self, doc: u64)
         requires { doc < DOC_COUNT }
         ensures { OnDoc doc (λ old new. (new.document ≡ flat_stop old.document)
@@ -28,7 +28,7 @@ impl Group {
         self.models[doc as usize].stop();
     }
 
-    /// Takes decorations of an owner out and puts new ones in.
+    /// Removes decorations of an owner and adds new ones.
     pub fn decorate(
         &mut self,
         doc: u64,
@@ -43,7 +43,7 @@ impl Group {
         self.models[doc as usize].decorate(owner, remove, add)
     }
 
-    /// Keeps the text of now, to be read from its front, and answers its id.
+    /// Opens a snapshot of the present text and returns its id.
     pub fn snapshot(&mut self, doc: u64) -> Result<u64, ModelError>
         requires { doc < DOC_COUNT }
         ensures { OnDoc doc (Shelves result) self.old self.new }
@@ -51,7 +51,7 @@ impl Group {
         self.models[doc as usize].snapshot()
     }
 
-    /// Goes on in a snapshot: the first `n` units of what is left of it were read. It takes no memory.
+    /// Moves on in a snapshot by its next `n` units. Allocates nothing.
     pub fn skip(&mut self, doc: u64, id: u64, n: u64)
         requires { doc < DOC_COUNT }
         ensures { OnDoc doc (λ old new. (new.document ≡ flat_skipped old.document id n)
@@ -60,7 +60,7 @@ impl Group {
         self.models[doc as usize].skip(id, n);
     }
 
-    /// Closes a snapshot. It takes no memory.
+    /// Closes a snapshot. Never fails with `Memory`.
     pub fn close(&mut self, doc: u64, id: u64) -> Result<(), ModelError>
         requires { doc < DOC_COUNT }
         ensures document { OnDoc doc (λ old new. Changes result old.document new.document
@@ -70,7 +70,7 @@ impl Group {
         self.models[doc as usize].close(id)
     }
 
-    /// Where the position is in the text; None where it is none of it. What was looked up is remembered for the edit that comes next.
+    /// Converts a position into an offset; None if it is invalid. Remembers the pieces for the next edit.
     pub fn locate(&mut self, doc: u64, p: Position) -> Option<u64>
         requires { doc < DOC_COUNT }
         ensures found { result ≡ flat_offset (doc_in (documents self.old) doc) p }
@@ -79,7 +79,7 @@ impl Group {
         self.models[doc as usize].locate(p)
     }
 
-    /// Appends the brackets of these lines. Each call that asks the tree of the last parse for a node or a bracket is a step.
+    /// Appends the brackets of these lines. A step is a call that asks the tree of the last parse for a node or a bracket.
     pub fn brackets_in<L>(
         &mut self,
         doc: u64,
@@ -95,7 +95,7 @@ impl Group {
         self.models[doc as usize].brackets_in_counted(from, to, out, steps)
     }
 
-    /// The partner of the bracket at the position, and how many units it has. Steps are counted as by `brackets_in`.
+    /// Returns the position and the length of the matching bracket. Steps are counted as by `brackets_in`.
     pub fn match_at<L>(
         &mut self,
         doc: u64,
@@ -109,7 +109,7 @@ impl Group {
         self.models[doc as usize].match_at_counted(p, steps)
     }
 
-    /// How many brackets are open at the position. Steps are counted as by `brackets_in`.
+    /// Returns the nesting level at a position. Steps are counted as by `brackets_in`.
     pub fn level_at<L>(
         &mut self,
         doc: u64,

@@ -1,4 +1,4 @@
-//! How the refusals of one document are told of several.
+//! Converts the errors of one document into those of a group.
 
 ghost use Rattle.std.specs.Prelude.{◌≡◌};
 ghost use Rattle.model_group.specs.Errors.{group_error_of};

@@ -24,13 +24,13 @@ use group_rules::{DOC_COUNT, GroupError};
 use model_core::{Model, Ready, Tag};
 use model_page::Way;
 
-/// The greatest version that a document may have.
+/// The greatest version of a document.
 const LAST_VERSION: u64 = 0x7FFF_FFFF_FFFF_FFFF;
 
 impl Group {
-    /// Goes back to the text before the last step of the document, as the next version, and answers whether there was one. A step that
-    /// several documents took at once is undone in all of them. `Limit` where a version would pass its limit; else `Joint` where that step
-    /// is not the last one of the least document that it names. All memory is taken before the first change.
+    /// Undoes the document's last step. The version goes up by 1. Returns whether there was a step. A joint step is undone in all its
+    /// documents. `Limit` if a version would pass its limit; else `Joint` with the lowest of its documents in which it is not the last
+    /// step. All memory is allocated before the first change.
     pub fn undo(&mut self, doc: u64) -> Result<bool, GroupError>
         requires { doc < DOC_COUNT }
         ensures documents { MovesAll result (documents self.old) (documents self.new)
@@ -44,7 +44,7 @@ impl Group {
         self.go(Way::Back, doc)
     }
 
-    /// Goes on to the text after the step that was undone last, as `undo` goes back.
+    /// Redoes the step of the document that was undone last. Otherwise like `undo`.
     pub fn redo(&mut self, doc: u64) -> Result<bool, GroupError>
         requires { doc < DOC_COUNT }
         ensures documents { MovesAll result (documents self.old) (documents self.new)
@@ -72,7 +72,7 @@ impl Group {
         self.go_by(way, doc, tag)
     }
 
-    // The step that comes next in the document, which has this tag or none.
+    // Carries out the document's next step, which has the given tag, if any.
     fn go_by(&mut self, way: Way, doc: u64, tag: Option<Tag>) -> Result<bool, GroupError>
         requires there { doc < DOC_COUNT }
         requires next { tag ≡ next_tag way self.old doc }
@@ -86,7 +86,7 @@ impl Group {
         }
     }
 
-    // One step of the document alone.
+    // Carries out one step of the document alone.
     fn go_alone(&mut self, way: Way, doc: u64) -> Result<bool, GroupError>
         requires there { doc < DOC_COUNT }
         requires next { None ≡ next_tag way self.old doc }
@@ -98,7 +98,7 @@ impl Group {
         go_next(&mut self.models[doc as usize], way).map_err(group_error_of)
     }
 
-    // The step of the tag in all of its documents, one of which is this.
+    // Carries out the step of the tag in all its documents, one of which is `doc`.
     fn go_together(&mut self, way: Way, doc: u64, tag: Tag) -> Result<bool, GroupError>
         requires there { doc < DOC_COUNT }
         requires next { Some tag ≡ next_tag way self.old doc }
@@ -118,7 +118,7 @@ impl Group {
         Ok(true)
     }
 
-    // Whether one of the tag's documents is in its last version.
+    // Returns whether one of the tag's documents has the greatest version.
     fn some_last(&self, tag: Tag) -> bool
         ensures { result ≡ some_last_from 0 tag (documents self.now) }
     {
@@ -130,7 +130,7 @@ impl Group {
         false
     }
 
-    // The least of the tag's documents in which another step comes next.
+    // Returns the lowest of the tag's documents whose next step is another one.
     fn other_next(&self, way: Way, tag: Tag) -> Option<u64>
         ensures { result ≡ other_next_from 0 (going_along way) tag (documents self.now) }
     {
@@ -162,7 +162,7 @@ impl Group {
         Ok(ready)
     }
 
-    // Prepares the step of the document too, if it is one of the tag's.
+    // Prepares the step in this document too, if it is one of the tag's.
     #[tactic(auto, using(crate::proofs::Committing::keep_same, crate::proofs::Committing::kept_all))]
     fn prepare_step(
         &mut self,
@@ -198,7 +198,7 @@ impl Group {
     }
 }
 
-// The step that comes next on the way.
+// Carries out the next undo or redo.
 fn go_next(model: &mut Model, way: Way) -> Result<bool, ModelError>
     ensures document { Moves result model.old.document model.new.document
         (flat_move way model.old.document) }
@@ -219,7 +219,7 @@ fn prepare_next(model: &mut Model, way: Way) -> Result<Option<Ready>, ModelError
     }
 }
 
-// Whether the document is one of the tag's, and in its last version.
+// Returns whether the document is one of the tag's and has the greatest version.
 fn is_last(model: &Model, doc: u64, tag: Tag) -> bool
     requires { doc < DOC_COUNT }
     ensures { result ≡ (is_member doc tag && is_last_version model.now.document) }
@@ -227,7 +227,7 @@ fn is_last(model: &Model, doc: u64, tag: Tag) -> bool
     is_member(doc, tag) && model.versions().0 >= LAST_VERSION
 }
 
-// Whether the document is one of the tag's, and another step comes next in it.
+// Returns whether the document is one of the tag's and its next step is another one.
 fn is_other(model: &Model, way: Way, doc: u64, tag: Tag) -> bool
     requires { doc < DOC_COUNT }
     ensures { result ≡ (is_member doc tag
@@ -236,7 +236,7 @@ fn is_other(model: &Model, way: Way, doc: u64, tag: Tag) -> bool
     is_member(doc, tag) && next_tag(model, way) != Some(tag)
 }
 
-// The tag of the step that comes next on the way.
+// Returns the tag of the next undo or redo step.
 fn next_tag(model: &Model, way: Way) -> Option<Tag>
     ensures { result ≡ front_tag ((going_along way).steps model.now.document) }
 {

@@ -1,4 +1,4 @@
-//! The group.
+//! The group of documents.
 
 ghost use Rattle.std.specs.Prelude.{◌≡◌, ◌<◌, Some, slice_get, IfOk};
 ghost use Rattle.group_rules.specs.declared.TheConstants.{DOC_COUNT};
@@ -10,10 +10,10 @@ use model_core::Model as Document;
 use std::alloc::{AllocError, Global};
 use std::marker::Model;
 
-/// Documents that are edited and undone together, numbered from 0 to 63. All are there from the start, and empty.
+/// 64 documents that are edited and undone together, numbered from 0 to 63. All exist from the start, and are empty.
 ///
-/// A step that was made in several of them at once is undone and made again in all of them at once. Where one of them can no longer
-/// make it again, it is a step of each of the others alone.
+/// A joint step is undone and redone in all its documents at once. Once one of them has lost it, it is an ordinary step of each of the
+/// others.
 #[derive(Drop)]
 pub struct Group {
     pub(crate) alloc: Global,
@@ -36,7 +36,7 @@ impl Model for Group {
 }
 
 impl Group {
-    /// Sixty-four empty documents, each of version 1.
+    /// Makes 64 empty documents, each with version 1.
     pub fn new(alloc: Global) -> Result<Group, AllocError>
         ensures { IfOk result (λ group. documents group ≡ new_group) }
     {
@@ -47,7 +47,7 @@ impl Group {
         Ok(Group { alloc, models })
     }
 
-    /// The document of this number. It takes no memory.
+    /// Returns the document of this number. Allocates nothing.
     pub fn doc(&self, n: u64) -> &Document
         requires { n < DOC_COUNT }
         ensures { slice_get self.now n ≡ Some result.now }

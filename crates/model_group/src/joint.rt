@@ -1,4 +1,4 @@
-//! One batch in each of several documents, all or none.
+//! Joint edits: batches in several documents, all or none.
 
 ghost use Rattle.std.specs.Prelude.{◌≡◌, ◌<◌, ◌≤◌, true, false, Some, None, length, map, IfOk, IfErr, OnOk, if◌then◌else◌};
 ghost use Rattle.std.specs.List.{All};
@@ -21,10 +21,10 @@ use group_rules::{DOC_COUNT, DocBatch, GroupError};
 use model_core::{Op, Ready, Tag};
 
 impl Group {
-    /// Carries out each batch on its document, all of them or none. In each document it is a step of undo of its own; an undo or a redo
-    /// of one of these is one of all of them. `Unknown` where a document is above 63 or named twice; else `Range` where a span is none of
-    /// its text; else `Overlap` where two spans of a batch overlap; else `Limit` where a new text or a version would pass its limit. All
-    /// memory is taken before the first change.
+    /// Carries out one batch in each of several documents, all or none. Each document gets its own step of undo; these steps are undone and
+    /// redone together. `Unknown` if a document number is above 63 or repeated; else `Range` if a span is invalid; else `Overlap` if two
+    /// spans of a batch overlap; else `Limit` if a new text or a version would pass its limit. All memory is allocated before the first
+    /// change.
     pub fn joint(&mut self, batches: Vec<DocBatch>) -> Result<(), GroupError>
         requires several { 2 ≤ length batches.items }
         requires some { All (λ b. 0 < length b.ops.items) batches.items }
@@ -45,7 +45,7 @@ impl Group {
         Ok(())
     }
 
-    // The tag of the step that the batches will be.
+    // Returns the tag for the step of these batches.
     fn tag_of(&self, batches: &[DocBatch], members: Members) -> Tag
         requires some { 0 < length batches.now }
         requires named { names_badly (docs_of (map flat_batch batches.now)) ≡ false }
@@ -60,7 +60,7 @@ impl Group {
         }
     }
 
-    // Prepares each batch. Of several refusals the first by its cause is answered.
+    // Prepares each batch. Of several errors returns the first by `cause`.
     #[tactic(auto, using(crate::proofs::Committing::keep_same))]
     fn prepare_batches(&mut self, batches: Vec<DocBatch>) -> Result<Vec<DocReady>, GroupError>
         requires { names_badly (docs_of (map flat_batch batches.items)) ≡ false }
@@ -100,7 +100,7 @@ impl Group {
     }
 }
 
-/// Whether one of these numbers is that of no document, or stands twice.
+/// Returns whether a number is above 63 or repeated.
 pub fn names_badly(docs: &[u64]) -> bool
     ensures { result ≡ names_badly docs.now }
 {
@@ -114,7 +114,7 @@ pub fn names_badly(docs: &[u64]) -> bool
     false
 }
 
-// The set of the documents; None where one is not there or named twice.
+// Returns the set of the documents; None if a number is out of range or repeated.
 fn members_of(batches: &[DocBatch]) -> Option<Members>
     ensures { result ≡ if names_badly (docs_of (map flat_batch batches.now)) then None
         else Some (members_of (map flat_batch batches.now)) }
@@ -136,7 +136,7 @@ fn least_of(batches: &[DocBatch]) -> u64
     least
 }
 
-// Of two refusals the one whose cause is looked for first; want of memory before all.
+// Returns the error with the first cause, as `cause` orders them.
 fn first_of(one: Option<ModelError>, other: ModelError) -> ModelError
     ensures { result ≡ first_of one other }
 {
@@ -146,7 +146,7 @@ fn first_of(one: Option<ModelError>, other: ModelError) -> ModelError
     }
 }
 
-// In which order the causes are looked for.
+// The order of the causes. `Memory` is first.
 fn cause(error: ModelError) -> u8
     ensures { result ≡ cause error }
 {

@@ -1,5 +1,5 @@
-//! Tags that are lost. What two documents share stands in one order in both: where one of them loses the tags of its last steps,
-//! those that go in the other are the last that it shares. So no list is walked but from its end, and none that loses nothing.
+//! Removes tags of lost steps. Two documents have their shared steps in the same order. So if one loses the tags of its last steps, the
+//! other loses those of the last steps that they share. Lists are walked from the end only, and only where a tag is removed.
 
 ghost use Rattle.std.specs.Prelude.{◌≡◌, ◌<◌, ◌≤◌, ◌^◌, true, length, drop, option_to_list};
 ghost use Rattle.std.specs.List.{All, flat_map};
@@ -14,7 +14,7 @@ use crate::ready::DocReady;
 use group_rules::DOC_COUNT;
 use model_core::{Model, Tag};
 
-/// What these documents could redo goes.
+/// Removes the tags of these documents' redo steps.
 pub(crate) fn lose_redo_of(models: &mut [Model], ready: &[DocReady], members: Members)
     requires group { IsGroup models.old }
     requires each { All (λ r. (r.doc < DOC_COUNT) × (has_doc members r.doc ≡ true)) ready.now }
@@ -27,8 +27,8 @@ pub(crate) fn lose_redo_of(models: &mut [Model], ready: &[DocReady], members: Me
     }
 }
 
-/// What the document could redo goes: its tags are lost in all documents that are not spared. It is spared itself. Those `before` lost
-/// theirs just before.
+/// Removes the tags of the document's redo steps from all documents not in `spared`, which contains this one. For those in `before` this
+/// was done just before.
 pub(crate) fn lose_redo(models: &mut [Model], doc: u64, spared: Members, before: &[DocReady])
     requires there { doc < DOC_COUNT }
     requires spared { has_doc spared doc ≡ true }
@@ -42,7 +42,7 @@ pub(crate) fn lose_redo(models: &mut [Model], doc: u64, spared: Members, before:
     lose_from(models, doc, undo, spared, before);
 }
 
-/// All steps of the document go.
+/// Removes the tags of the document's steps.
 pub(crate) fn lose_all(models: &mut [Model], doc: u64)
     requires there { doc < DOC_COUNT }
     requires group { IsGroup models.old }
@@ -52,7 +52,7 @@ pub(crate) fn lose_all(models: &mut [Model], doc: u64)
     lose_from(models, doc, 0, Members::one(doc), &[]);
 }
 
-// The tags of the steps of the document, from that of the number `first` on, are lost.
+// Removes the tags of the document's steps from index `first` on.
 fn lose_from(models: &mut [Model], doc: u64, first: u64, spared: Members, before: &[DocReady])
     requires there { doc < DOC_COUNT }
     requires spared { has_doc spared doc ≡ true }
@@ -73,7 +73,7 @@ fn lose_from(models: &mut [Model], doc: u64, first: u64, spared: Members, before
     }
 }
 
-// The documents that the tags of these steps name.
+// Returns the documents named by the tags of these steps.
 fn named_from(model: &Model, first: u64) -> Members
     requires { first ≤ length (all_steps model.now.document.history) }
     ensures { Names (tags_of (drop first (all_steps model.now.document.history))) result }
@@ -86,7 +86,7 @@ fn named_from(model: &Model, first: u64) -> Members
     named
 }
 
-// How many of these steps have a tag that document `k` has too, and has still.
+// Returns how many of these steps have a tag that document `k` still has.
 fn left_from(model: &Model, first: u64, k: u64, before: &[DocReady]) -> u64
     requires first { first ≤ length (all_steps model.now.document.history) }
     requires there { k < DOC_COUNT }
@@ -114,7 +114,7 @@ fn left_in(before: &[DocReady], k: u64, tag: Option<Tag>) -> u64
     }
 }
 
-// Whether the tag names one of the documents of these.
+// Returns whether the tag names one of these documents.
 fn names_any(ready: &[DocReady], tag: Tag) -> bool
     requires { All (λ r. r.doc < DOC_COUNT) ready.now }
     ensures { result ≡ names_any ready.now tag }

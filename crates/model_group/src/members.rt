@@ -35,7 +35,7 @@ impl Members {
         Members { bits: 0 }
     }
 
-    /// This document alone.
+    /// The set of this document.
     pub fn one(doc: u64) -> Members
         requires { doc < DOC_COUNT }
         ensures { result ≡ 2 ^ doc }
@@ -43,7 +43,7 @@ impl Members {
         Members { bits: 1 << doc }
     }
 
-    /// The documents that the tag names, if there is one.
+    /// The set of the documents that the tag names, if any.
     pub fn of(tag: Option<Tag>) -> Members
         ensures { Names (option_to_list tag) result }
     {
@@ -60,7 +60,7 @@ impl Members {
         (self.bits >> doc) & 1 == 1
     }
 
-    /// The set with this document too; None where the set has it, or there is no document of this number.
+    /// Adds a document; None if it is in the set already or out of range.
     pub fn more(self, doc: u64) -> Option<Members>
         ensures { result ≡ set_with self doc }
     {
@@ -72,7 +72,7 @@ impl Members {
         })
     }
 
-    /// The documents of either set.
+    /// The union of both sets.
     pub fn or(self, other: Members) -> Members
         ensures { result ≡ bit_or self other }
     {
@@ -87,7 +87,7 @@ impl Members {
         self.bits == 0
     }
 
-    /// The set as the bits of a number.
+    /// The set as a number, with bit n for document n.
     pub fn bits(self) -> u64
         ensures { result ≡ self }
     {
@@ -95,7 +95,7 @@ impl Members {
     }
 }
 
-/// Whether the tag is of this document.
+/// Returns whether the tag names this document.
 pub(crate) fn is_member(doc: u64, tag: Tag) -> bool
     requires { doc < DOC_COUNT }
     ensures { result ≡ is_member doc tag }

@@ -1,4 +1,4 @@
-//! Changes that were prepared are carried out.
+//! Carries out prepared changes.
 
 ghost use Rattle.std.specs.Prelude.{◌≡◌, length};
 ghost use Rattle.std.specs.List.{All};
@@ -8,7 +8,7 @@ ghost use Rattle.model_group.specs.State.{OnDoc};
 
 use model_core::{Model, Ready, Tag};
 
-/// What was prepared for the document of this number.
+/// A prepared change of this document.
 #[derive(Drop)]
 pub(crate) struct DocReady {
     pub doc: u64,
@@ -18,15 +18,15 @@ pub(crate) struct DocReady {
 /// How a change is made.
 #[derive(Clone, Copy)]
 pub(crate) enum Manner {
-    /// As the rule makes it: an edit may join the step before it.
+    /// By the rule: an edit may join the step before it.
     Plain,
     /// As a step of its own.
     Alone,
-    /// As a step of its own, which gets the tag.
+    /// As a step of its own, with this tag.
     Joint(Tag),
 }
 
-/// Carries out each.
+/// Carries out all prepared changes.
 pub(crate) fn commit_all(models: &mut [Model], ready: Vec<DocReady>, manner: Manner)
     requires count { length models.old ≡ DOC_COUNT }
     requires apart { AreApart ready.items }
@@ -38,7 +38,7 @@ pub(crate) fn commit_all(models: &mut [Model], ready: Vec<DocReady>, manner: Man
     }
 }
 
-/// Carries out what was prepared for one document.
+/// Carries out one prepared change.
 pub(crate) fn commit_step(models: &mut [Model], one: DocReady, manner: Manner)
     requires count { length models.old ≡ DOC_COUNT }
     requires ready { IsReadyIn (CanIn manner) models.old one }

@@ -1,4 +1,4 @@
--- What a parse reads of a text, and how high its tree is.
+-- The lines that a parse reads, and the height of its tree.
 use Rattle.std.specs.Prelude.{◌≡◌, ℕ, zero, suc, ◌+◌, ◌≤◌, ◌^◌, Bool, false, if◌then◌else◌, List, [], ◌++◌, length, sum, Option, Some, None, refl}
 use Rattle.std.specs.Option.{option_map}
 use Rattle.std.specs.Coded.{Coded, code_by, coded_ℕ, coded_list, coded×}
@@ -14,27 +14,27 @@ use Rattle.mark_rules.specs.declared.Mark.{Mark}
 use Rattle.node_reuse.specs.ParsedTree.{ParsedTree, parsed_tree_code}
 use Rattle.document_rules.specs.Brackets.{line_contents}
 
--- a parse, and the numbers of the lines of the text that were read for it, in order
+-- a parse, and the numbers of the lines of the text that it read, in order
 pub record ReadTree : Type 0 where
   pub parsed : ParsedTree
   pub read : List ℕ
 
--- by which proofs tell them apart
+-- a code by which proofs tell them apart
 abbrev pub read_tree_code : Coded ReadTree
 read_tree_code =
     code_by (ParsedTree × List ℕ) (coded× parsed_tree_code (coded_list coded_ℕ)) (λ r. (r.parsed, r.read))
     (λ r. record { parsed = r.0; read = r.1 }) (λ _. refl)
 
--- the parse itself, where there was one
+-- the parse itself, if any
 abbrev pub told_parse : Option ReadTree → Option ParsedTree
 told_parse parse = option_map (λ (p : ReadTree). p.parsed) parse
 
--- the tree of a parse, where there was one
+-- the tree of a parse, if any
 abbrev pub parsed_tree : Option ReadTree → Option Tree
 parsed_tree None = None
 parsed_tree (Some parse) = Some parse.parsed.tree
 
--- so many ops leave no tree of the text of now; none leaves what was there
+-- after one op or more the last parse is not of the present text; after none this is as before
 abbrev pub KeptBy : ℕ → Bool → Bool → Type 0
 KeptBy zero old new = new ≡ old
 KeptBy (suc ops) old new = new ≡ false
@@ -44,27 +44,27 @@ pub record AreStatesOf (by : Scanner) (x : List ℕ) (states : Borders) : Type 0
   pub begins : states.begins ≡ line_states by (line_contents x)
   pub ends : states.ends ≡ state_behind by Code (line_contents x)
 
--- the lines that a parse of text x asks for: those that are new, and those that begin in another state than in the last parse
+-- the lines that a parse of text x reads: new ones, and those that begin in another state than in the last parse
 abbrev pub lines_to_ask : Borders → List Mark → Scanner → List ℕ → List ℕ
 lines_to_ask last marks by x = scanned_lines 1 (known_lines last marks) (line_states by (line_contents x))
 
--- the lines that are read to find in which state each line begins: none, where no comment goes on from line to line
+-- the lines that are read to find the states of all lines: none without block comments
 abbrev pub lines_to_settle : Borders → List Mark → Scanner → List ℕ → List ℕ
 lines_to_settle last marks by x = if has_block by.marks then lines_to_ask last marks by x else []
 
--- there is a parse of text x, which asked for those lines and read no others
+-- there is a parse of text x, and it read these lines only
 abbrev pub HasRead : Option ReadTree → Borders → List Mark → Scanner → List ℕ → Type 0
 HasRead None last marks by x = ⊥
 HasRead (Some parse) last marks by x =
     let asked = lines_to_ask last marks by x in
     (parse.parsed.asked ≡ length asked) × (parse.read ≡ lines_to_settle last marks by x ++ asked)
 
--- The height of each list in the tree is at most logarithmic in the text: 2 to its power is at most one more than the units of
--- the lines and the breaks between them.
+-- The height of each list in the tree is at most logarithmic in the text: 2 to the height is at most the number of units of the lines and
+-- of breaks between them, plus 1.
 abbrev pub IsLow : Tree → List ℕ → Type 0
 IsLow tree x = 2 ^ highest tree ≤ sum (text_weights (line_contents x)) + 1
 
--- the same of a tree that is there
+-- `IsLow` for a tree that must exist
 abbrev pub HasLowTree : Option Tree → List ℕ → Type 0
 HasLowTree None x = ⊥
 HasLowTree (Some tree) x = IsLow tree x

@@ -1,4 +1,4 @@
--- Changes that were carried out, and the texts that they lead to and back from.
+-- Changes that were carried out, and the texts before and after them.
 use Rattle.std.specs.Prelude.{◌≡◌, ◌≤◌, List, [], ◌∷◌, length, ⊤}
 use Rattle.unit_text.specs.declared.kind.Kind.{Kind}
 use Rattle.text_rules.specs.declared.Op.{Op}
@@ -12,7 +12,7 @@ use Rattle.model_page.specs.declared.change.Change.TheVariants.{Ops, Endings}
 use Rattle.model_page.specs.declared.change.Way.{Way}
 use Rattle.model_page.specs.declared.change.Way.TheVariants.{Back, On}
 
--- the text that a change of line endings leads from on the way, and the one that it leads to
+-- the text before a change of line endings on this way, and the one after it
 abbrev pub text_from : Way → RecastState → FlatText
 text_from Back r = record { units = r.after; kind = r.to }
 text_from On r = record { units = r.before; kind = r.from }
@@ -21,27 +21,27 @@ abbrev pub text_to : Way → RecastState → FlatText
 text_to Back r = record { units = r.before; kind = r.from }
 text_to On r = record { units = r.after; kind = r.to }
 
--- the ops that lead a text along the change
+-- the ops that carry out the change this way
 abbrev pub ops_by : Way → Change → List Op
 ops_by Back (Ops ops inverse) = inverse
 ops_by On (Ops ops inverse) = ops
 ops_by way (Endings r) = whole_op (text_from way r).units (text_to way r).units
 
--- the kind that the text has then, where it had this one
+-- the kind of the text after the change, from the kind before it
 abbrev pub kind_by : Way → Change → Kind → Kind
 kind_by way (Ops ops inverse) kind = kind
 kind_by way (Endings r) kind = (text_to way r).kind
 
--- the text that the change leads to
+-- the text after the change, carried out this way
 abbrev pub led : Way → Change → FlatText → FlatText
 led way c text = record { units = applied_from 0 text.units (ops_by way c); kind = kind_by way c text.kind }
 
--- the text before the changes, where `after` is the one after them
+-- the text before the changes, from the text after them
 abbrev pub text_back : FlatText → List Change → FlatText
 text_back after [] = after
 text_back after (c ∷ cs) = led Back c (text_back after cs)
 
--- the text after the changes, where `before` is the one before them
+-- the text after the changes, from the text before them
 abbrev pub text_on : FlatText → List Change → FlatText
 text_on before [] = before
 text_on before (c ∷ cs) = text_on (led On c before) cs
@@ -51,20 +51,19 @@ abbrev pub deed_of : Change → Deed
 deed_of (Ops ops inverse) = batch ops
 deed_of (Endings r) = recast
 
--- the changes with their whole texts, from the text after them back
+-- the changes with their whole texts, from the text after them
 abbrev pub changes_back : FlatText → List Change → List FlatChange
 changes_back after [] = []
 changes_back after (c ∷ cs) =
     record { before = text_back after (c ∷ cs); deed = deed_of c; after = text_back after cs } ∷ changes_back after cs
 
--- the changes with their whole texts, from the text before them on
+-- the changes with their whole texts, from the text before them
 abbrev pub changes_on : FlatText → List Change → List FlatChange
 changes_on before [] = []
 changes_on before (c ∷ cs) =
     let after = led On c before in record { before = before; deed = deed_of c; after = after } ∷ changes_on after cs
 
--- both texts are of their kinds, at each moment on the way; a change of line endings is one of these two texts, whose lines have the
--- same contents
+-- The text keeps its kind after each op, on both ways. A change of line endings has these two texts, whose lines have the same contents.
 abbrev pub AreOfKinds : FlatText → Change → FlatText → Type 0
 AreOfKinds before (Ops ops inverse) after = KeepsKind before.kind before.units ops × KeepsKind after.kind after.units inverse
 AreOfKinds before (Endings r) after = (text_from On r ≡ before) × (text_to On r ≡ after) × HaveSameContents r.before r.after

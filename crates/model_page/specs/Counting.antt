@@ -1,4 +1,4 @@
--- How many steps a question about brackets takes: one for each call that asks the old tree for a node or a bracket.
+-- The number of steps of a question about brackets: one for each call that asks the old tree for a node or a bracket.
 use Rattle.std.specs.Prelude.{◌≡◌, ℕ, ◌+◌, ◌*◌, ◌≤◌, true, List, Option, Some}
 use Rattle.hiding_rules.specs.Hidden.{Scanner}
 use Rattle.line_states.specs.Settling.{Borders}
@@ -11,9 +11,9 @@ use Rattle.node_reuse.specs.Paying.{token_count, most_steps}
 use Rattle.model_page.specs.Asked.{lines_to_ask}
 use Rattle.document_rules.specs.Brackets.{line_contents}
 
--- Where each bracket of the old tree is one of a pair, the lines that are asked for are one run, and their brackets beside
--- those of the tree meet the most that may be open from far below, the steps are bounded by the formula: by the tokens of
--- these lines, the tree's nesting and the height of its lists.
+-- The number of steps is bounded by the formula, from the tokens of the lines to be read, the tree's nesting and the height of its lists.
+-- This holds if all brackets of the old tree are paired, these lines are consecutive, and twice the nesting plus the tokens is at most
+-- `MOST_OPEN`.
 abbrev pub TakesFewSteps : Option Tree → Borders → List Mark → Scanner → List ℕ → ℕ → ℕ → Type 0
 TakesFewSteps old last marks by x before after =
     (tree : Tree) → old ≡ Some tree → all_paired tree ≡ true → IsOneRun (lines_to_ask last marks by x)

@@ -1,4 +1,4 @@
--- How many ops there are on a way, and how many units and breaks their texts have.
+-- The numbers of ops on a way, and of the units and breaks of their texts.
 use Rattle.std.specs.Prelude.{ℕ, List, length, sum_by}
 use Rattle.batch_rules.specs.Batches.{text_units}
 use Rattle.text_batches.specs.Needs.{text_breaks}
@@ -7,7 +7,7 @@ use Rattle.model_page.specs.declared.change.Change.TheVariants.{Ops, Endings}
 use Rattle.model_page.specs.declared.change.Way.{Way}
 use Rattle.model_page.specs.Changes.{ops_by}
 
--- how many ops there are on the way, and how many units and breaks the texts of these have
+-- the number of ops on the way, and of the units and breaks of their texts
 abbrev pub op_count : Way → List Change → ℕ
 op_count way cs = sum_by (λ c. length (ops_by way c)) cs
 
@@ -17,7 +17,7 @@ unit_count way cs = sum_by (λ c. text_units (ops_by way c)) cs
 abbrev pub breaks_along : Way → List Change → ℕ
 breaks_along way cs = sum_by (λ c. text_breaks (ops_by way c)) cs
 
--- how many ops of the change mark lines; other line endings mark none
+-- how many ops of the change mark lines; new line endings mark none
 abbrev pub marking_ops : Way → Change → ℕ
 marking_ops way (Ops ops inverse) = length (ops_by way (Ops ops inverse))
 marking_ops way (Endings r) = 0

@@ -40,7 +40,7 @@ typed_in_line_two = record {
 undone_lines_are_new : marked_back (clean_marks 3) (typed_in_line_two ∷ []) ≡ Kept 1 ∷ New ∷ Kept 3 ∷ []
 undone_lines_are_new = refl
 
--- the ops of a batch are told from the last one back
+-- the ops of a batch are returned from the last one back
 the_last_op_is_told_first : edits_of_first 2 On (Ops two_lines_touched [])
     ≡ record { span = record { start = 2; end = 2 }; text = 10 ∷ []; force = false } ∷ insert 0 ∷ []
 the_last_op_is_told_first = refl

@@ -1,4 +1,4 @@
--- How edits mark the lines of the text of now.
+-- The marks of the lines of the present text after edits.
 use Rattle.std.specs.Prelude.{ℕ, List, [], ◌∷◌}
 use Rattle.text_rules.specs.declared.Op.{Op}
 use Rattle.text_rules.specs.Dirty.{first_dirty, old_dirty, new_dirty}
@@ -13,16 +13,16 @@ use Rattle.model_page.specs.declared.change.Way.{Way}
 use Rattle.model_page.specs.declared.change.Way.TheVariants.{Back, On}
 use Rattle.model_page.specs.Changes.{ops_by}
 
--- after an op on text x: the lines that it touches are new, the others stay what they were
+-- after an op on text x: the lines that it touches are new, the others keep their marks
 abbrev pub marked_by : List ℕ → Op → List Mark → List Mark
 marked_by x op marks = edited_marks (first_dirty x op.span) (old_dirty x op.span) (new_dirty x op.span op.text) marks
 
--- after the ops were carried out on text x one by one, the last of them first
+-- after the ops were carried out on text x, from the last one back
 abbrev pub marked_backwards : List ℕ → List Op → List Mark → List Mark
 marked_backwards x [] marks = marks
 marked_backwards x (op ∷ ops) marks = marked_by (edited_backwards x ops) op (marked_backwards x ops marks)
 
--- after the change on text x: what the lines hold stays under other line endings, and so do the marks
+-- after the change on text x: new line endings change no mark, since no line's content changes
 abbrev pub marks_over : Way → Change → List ℕ → List Mark → List Mark
 marks_over way (Ops ops inverse) x marks = marked_backwards x (ops_by way (Ops ops inverse)) marks
 marks_over way (Endings r) x marks = marks
@@ -45,17 +45,17 @@ abbrev pub marked_on : List Mark → List FlatChange → List Mark
 marked_on marks [] = marks
 marked_on marks (change ∷ changes) = marked_on (marks_made_again change.before change.deed marks) changes
 
--- after the step that comes next is undone; as they are, where there is none
+-- after the next step is undone; unchanged if there is none
 abbrev pub undone_marks : List Mark → List (Step FlatChange) → List Mark
 undone_marks marks [] = marks
 undone_marks marks (step ∷ steps) = marked_back marks step.changes
 
--- after it is made again
+-- after the next step is redone; unchanged if there is none
 abbrev pub redone_marks : List Mark → List (Step FlatChange) → List Mark
 redone_marks marks [] = marks
 redone_marks marks (step ∷ steps) = marked_on marks step.changes
 
--- the marks after the step that comes next, where there is one
+-- after the next step on this way; unchanged if there is none
 abbrev pub marked_step : Way → List Mark → List (Step FlatChange) → List Mark
 marked_step Back marks steps = undone_marks marks steps
 marked_step On marks steps = redone_marks marks steps

@@ -1,4 +1,4 @@
--- What contracts see of a page, the text side of a document: what may be done with it, and what that leaves.
+-- What contracts see of a page: its state, the preconditions of its calls, and the page after them.
 use Rattle.std.specs.Prelude.{◌≡◌, ℕ, ◌+◌, ◌≤◌, Bool, true, false, List, length, replicate, Option, None, is_some, Result, OnOk, OnErr}
 use Rattle.unit_text.specs.declared.kind.Kind.{Kind}
 use Rattle.unit_text.specs.Kinds.{IsOfKind}
@@ -33,40 +33,40 @@ use Rattle.model_page.specs.Ways.{LeadBy}
 pub record PageState : Type 0 where
   pub text : Text
   pub decorations : Decorations
-  -- its brackets, and what hides them
+  -- its brackets, and the marks that hide some of them
   pub scanner : Scanner
-  -- the last parse, be it of the text of now or of an earlier one: which lines were read for it
+  -- the last parse, of the present text or an earlier one, with the lines that were read for it
   pub parsed : Option ReadTree
   -- its bracket tree
   pub tree : Option Tree
-  -- what each line of the text of now is to that parse; new, where there was none
+  -- a mark for each line of the present text: a line of that parse, or new
   pub marks : List Mark
-  -- in which states the lines of that parse began
+  -- the states in which the lines of that parse began
   pub states : Borders
-  -- for how many edits of the marks there is room
+  -- the number of further edits of the marks that need no allocation
   pub spare : ℕ
 
 -- the text as a flat document has it
 abbrev pub flat_text : Text → FlatText
 flat_text text = record { units = text.units; kind = text.kind }
 
--- what holds of every page
+-- the invariant of a page
 pub record IsPage (page : PageState) : Type 0 where
-  -- all line endings are those of the text's kind
+  -- all line endings are of the text's kind
   pub endings : IsOfKind page.text.kind page.text.units
   pub fits : length page.text.units ≤ most_units
   pub inside : AreIn (length page.text.units) page.decorations
   pub stays : StaysWith page.tree page.marks page.states page.scanner page.text.units
 
--- whether the tree of the last parse is that of the text of now
+-- whether the last parse is of the present text
 abbrev pub is_fresh : PageState → Bool
 is_fresh page = is_some (fresh_tree page.tree page.marks)
 
--- its decorations once these of an owner went and these came
+-- its decorations after some of an owner were removed and others added
 abbrev pub decorated_on : PageState → ℕ → List ℕ → List NewDeco → Result Decorations DecoRefusal
 decorated_on page owner remove add = decorated page.decorations owner remove add page.text.kind page.text.units
 
--- a page of these units of this kind, with these brackets and no decoration, which was not parsed yet
+-- a page of these units and this kind, with these brackets, no decorations and no parse
 pub record IsNew (x : List ℕ) (endings : Kind) (by : Scanner) (page : PageState) : Type 0 where
   pub units : page.text.units ≡ x
   pub kind : page.text.kind ≡ endings
@@ -84,7 +84,7 @@ pub record HasRoom (page : PageState) (need : Need) : Type 0 where
   pub text : text_room.IsEnough page.text.room need
   pub marks : need.edits ≤ page.spare
 
--- the old room is still there
+-- there is at least the old room
 pub record KeepsRoom (old new : PageState) : Type 0 where
   pub text : text_room.KeepsRoom old.text.room new.text.room
   pub marks : old.spare ≤ new.spare
@@ -94,16 +94,16 @@ pub record HasSpent (need : Need) (old new : PageState) : Type 0 where
   pub text : text_room.HasSpent need old.text.room new.text.room
   pub marks : old.spare ≤ new.spare + need.edits
 
--- ---- what a call leaves
+-- ---- the page after a call
 
--- the last parse, and what it went by
+-- the last parse and its brackets are unchanged
 pub record KeepsParse (old new : PageState) : Type 0 where
   pub scanner : new.scanner ≡ old.scanner
   pub parsed : new.parsed ≡ old.parsed
   pub tree : new.tree ≡ old.tree
   pub states : new.states ≡ old.states
 
--- the page is as it was, beside the room for edits
+-- everything but the room is unchanged, and buffers are only appended to
 pub record IsUntouched (old new : PageState) : Type 0 where
   pub units : new.text.units ≡ old.text.units
   pub kind : new.text.kind ≡ old.text.kind
@@ -113,31 +113,31 @@ pub record IsUntouched (old new : PageState) : Type 0 where
   pub marks : new.marks ≡ old.marks
   pub parse : KeepsParse old new
 
--- ---- what is asked of a page
+-- ---- preconditions
 
--- The ops stand in the text in their order, the text that they make is not too long, and there is room for them. All line endings
--- are those of the text's kind at each moment.
+-- The ops are in order and within the text, the text after them is not too long, there is room for them, and the text keeps its kind after
+-- each of them.
 pub record CanApply (page : PageState) (ops : List Op) : Type 0 where
   pub standing : StandFrom 0 page.text.units ops
   pub fits : length (applied_from 0 page.text.units ops) ≤ most_units
   pub keeps : KeepsKind page.text.kind page.text.units ops
   pub room : HasRoom page (need_of_ops ops)
 
--- the change leads on from the text this way, and there is room for it
+-- the change can be carried out this way, and there is room for it
 abbrev pub CanFollow : Way → PageState → Change → Type 0
 CanFollow way page (Ops ops inverse) = CanApply page (ops_by way (Ops ops inverse))
 CanFollow way page (Endings r) = (text_from way r ≡ flat_text page.text) × HasRoom page (need_of_ops (ops_by way (Endings r)))
 
--- the changes lead the text this way, and there is room for them
+-- the changes can be carried out this way, and there is room for them
 pub record CanLead (way : Way) (page : PageState) (cs : List Change) : Type 0 where
   pub lead : LeadBy way (flat_text page.text) cs
   pub room : HasRoom page (need_along way cs)
 
 -- ---- a parse
 
--- The tree is that of the text of now, and each line is kept then. The text was parsed where the tree was not its own, and the
--- lines alone that are new or begin in another state were read. An error comes only there, and leaves all as it was. Room that was
--- there stays.
+-- The last parse is of the present text, and each line has its mark of that parse. The text is parsed only if it was not so before, and
+-- only lines that are new or begin in another state are read. The call fails only then, and leaves everything unchanged. There is at least
+-- the old room.
 pub record Renews {A E : Type 0} (result : Result A E) (old new : PageState) : Type 0 where
   pub text : new.text ≡ old.text
   pub decorations : new.decorations ≡ old.decorations

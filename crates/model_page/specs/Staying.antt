@@ -1,4 +1,4 @@
--- What a page keeps of the last parse, and when that stays with the text of now.
+-- The last parse of a page, and how it fits the present text.
 use Rattle.std.specs.Prelude.{◌≡◌, ℕ, ◌-◌, ◌++◌, true, false, if◌then◌else◌, List, length, map, replicate, slice_index_or, Option, Some, None, ⊤}
 use Rattle.text_rules.specs.Lines.{lines_of}
 use Rattle.bracket_rules.specs.Rows.{Row}
@@ -25,7 +25,7 @@ use Rattle.model_page.specs.Asked.{ReadTree, HasRead, IsLow, lines_to_settle}
 abbrev pub fresh_tree : Option Tree → List Mark → Option Tree
 fresh_tree tree marks = if has_new marks then None else tree
 
--- a tree of the text of now
+-- a tree of the present text
 pub record IsTreeNow (tree : Tree) (by : Scanner) (x : List ℕ) : Type 0 where
   pub table : is_table by.table ≡ true
   pub tells : IsTreeOf (hidden_rows by (line_contents x)) tree
@@ -40,16 +40,16 @@ pub record ParseState : Type 0 where
   pub parsed : Option ReadTree
   -- its tree
   pub tree : Option Tree
-  -- one for each line of the text of now
+  -- a mark for each line of the present text
   pub marks : List Mark
-  -- in which states the lines of the last parse began
+  -- the states in which the lines of the last parse began
   pub states : Borders
-  -- for how many edits of the marks there is room
+  -- the number of further edits of the marks that need no allocation
   pub spare : ℕ
 
--- ---- lines as they were parsed last
+-- ---- lines at the last parse
 
--- in which state a line with this mark began then; a new one was not parsed, so any state will do
+-- the state in which a line with this mark began at the last parse; any state will do for a new line
 abbrev pub last_state : Borders → Mark → LineState
 last_state last New = Code
 last_state last (Kept i) = slice_index_or last.begins (i - 1) Code
@@ -60,12 +60,12 @@ last_lines last marks by contents = lines_by by (map (last_state last) marks) co
 abbrev pub BeginInCode : Borders → Type 0
 BeginInCode last = last.begins ≡ replicate (length last.begins) Code
 
--- The tree of the last parse, where there is one, agrees with text x under the marks of its lines, each of which begins as it
--- did then; and where no line is new, it is the tree of this text.
+-- The tree of the last parse, if any, agrees with text x under the marks of its lines, if each kept line begins as it did at that parse.
+-- Without new lines it is the tree of this text.
 pub record StaysWith (tree : Option Tree) (marks : List Mark) (last : Borders) (by : Scanner) (x : List ℕ) : Type 0 where
   pub count : length marks ≡ length (lines_of x)
   pub agrees : AgreesIfThere tree marks (broken (last_lines last marks by (line_contents x)))
-  -- a kept line leads from the state in which it began to that in which it ended
+  -- the scan of a kept line goes from the state in which it began to the one in which it ended
   pub lead : Lead by (known_lines last marks) (line_contents x)
   -- without block comments no line begins in one
   pub plain : has_block by.marks ≡ false → BeginInCode last
@@ -73,7 +73,7 @@ pub record StaysWith (tree : Option Tree) (marks : List Mark) (last : Borders) (
 
 -- ---- a parse
 
--- to the numbers of the lines that were read come those by which the lines of text x are settled
+-- the lines that settle the states of text x are appended to the numbers of lines read
 abbrev pub ReadsToSettle : ParseState → Scanner → List ℕ → List ℕ → List ℕ → Type 0
 ReadsToSettle p by x old new = new ≡ old ++ lines_to_settle p.states p.marks by x
 
@@ -83,7 +83,7 @@ pub record AreSettled (by : Scanner) (x : List ℕ) (last : Borders) (old : List
   pub ends : settled.states.ends ≡ state_behind by Code (line_contents x)
   pub marks : settled.marks ≡ settled_marks last old (line_states by (line_contents x))
 
--- a parse of text x, which read those lines alone
+-- a parse of text x that read only the lines it must
 pub record IsParseOf (by : Scanner) (x : List ℕ) (last : Borders) (marks : List Mark) (parse : ReadTree) : Type 0 where
   pub now : IsTreeNow parse.parsed.tree by x
   pub tight : IsTight parse.parsed.tree

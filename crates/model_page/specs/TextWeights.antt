@@ -1,17 +1,17 @@
--- What the lines of a text may weigh together is no more than its units.
+-- The weights of the lines of a text add up to at most its units.
 use Rattle.std.proofs.Common.{ℕ, ◌+◌, ◌<◌, ◌≤◌, ◌==◌, ◌^◌, Bool, true, false, ◌&&◌, ◌||◌, if◌then◌else◌, List, [], ◌∷◌, length, map, sum, arith}
 use Rattle.std.proofs.lemmas.List.Sums.{sum_by-cons}
 use Rattle.text_rules.specs.Lines.{Line, lines_of, line_feed, carriage_return, begins_with, in_first_line, in_first_break}
 use Rattle.line_states.specs.Lines.{text_weights}
 use Rattle.document_rules.specs.Brackets.{line_contents}
 
--- the contents of lines, and one for each break between them
+-- the lengths of the lines' contents, plus 1 for each break between them
 abbrev spread : List Line → ℕ
 spread [] = 0
 spread (line ∷ []) = length line.content
 spread (line ∷ next ∷ lines) = length line.content + (1 + spread (next ∷ lines))
 
--- the lines with a unit in front, which joins the break of the first one, or is a break by itself
+-- the lines after a unit is put in front, which joins the first break, or is a break, or begins the first line
 abbrev with_unit : ℕ → Bool → Bool → List Line → List Line
 with_unit u joins breaks lines =
     if joins then in_first_break u lines else

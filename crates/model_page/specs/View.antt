@@ -1,4 +1,4 @@
--- What of its fields a page shows.
+-- The fields of a page that contracts see.
 use Rattle.hiding_rules.specs.Hidden.{scanner}
 use Rattle.model_page.specs.declared.page.Page.TheInside.{Inside}
 use Rattle.model_page.specs.State.{PageState}

@@ -1,4 +1,4 @@
--- The two ways on which changes lead a page: an undo takes them back, a redo makes them again.
+-- The two ways to carry out changes: an undo takes them back, a redo makes them again.
 use Rattle.std.specs.Prelude.{ℕ, ◌-◌, Bool, true, false, List, [], ◌∷◌, ◌++◌, length, take, drop}
 use Rattle.text_rules.specs.declared.Op.{Op}
 use Rattle.decoration_rules.specs.Decorations.{Decorations}
@@ -11,7 +11,7 @@ use Rattle.model_page.specs.Changes.{ops_by, text_back, text_on, changes_back, c
 use Rattle.model_page.specs.Carrying.{decorations_back, decorations_on}
 use Rattle.model_page.specs.LineMarks.{marked_back, marked_on}
 
--- whether decorations that an op forces are moved so: on the way back only
+-- whether ops force decorations: only on the way back
 abbrev pub forces : Way → Bool
 forces Back = true
 forces On = false
@@ -41,19 +41,19 @@ abbrev pub marked_along : Way → List Mark → List FlatChange → List Mark
 marked_along Back marks changes = marked_back marks changes
 marked_along On marks changes = marked_on marks changes
 
--- the batches that lead along the changes, in the order in which they are carried out: the last change is taken back first
+-- the batches of the changes on this way, in order; on the way back those of the last change come first
 abbrev pub batches_by : Way → List Change → List (List Op)
 batches_by Back [] = []
 batches_by Back (c ∷ cs) = batches_by Back cs ++ ops_by Back c ∷ []
 batches_by On [] = []
 batches_by On (c ∷ cs) = ops_by On c ∷ batches_by On cs
 
--- the place of the change that comes next of so many, after others: the last one is taken back first, the first one made again first
+-- the index of the next change, after `done` of `count`: from the last one on the way back, from the first one otherwise
 abbrev pub place_at : Way → ℕ → ℕ → ℕ
 place_at Back count done = count - 1 - done
 place_at On count done = done
 
--- the changes that are left on the way after so many
+-- the changes that remain on the way after `done` ones
 abbrev pub rest_on : Way → ℕ → List Change → List Change
 rest_on Back done cs = take (length cs - done) cs
 rest_on On done cs = drop done cs

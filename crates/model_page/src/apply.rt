@@ -1,4 +1,4 @@
-//! Ops and changes that are carried out.
+//! Carries out ops and changes.
 
 ghost use Rattle.std.specs.Prelude.{◌≡◌, ◌<◌, length};
 ghost use Rattle.batch_rules.specs.Batches.{applied_from};
@@ -23,9 +23,9 @@ use edit_stack::Element;
 use unit_text::Flat;
 
 impl Page {
-    /// Leads the page along the change this way, for which there is room. Decorations move with its ops, forced ones only where
-    /// they are wanted, and the lines that these touch are marked; under other line endings decorations keep line and column, and
-    /// lines stay what they were to the last parse. It takes no memory.
+    /// Carries out the change this way: makes it again or takes it back. Room for it is reserved, so nothing is allocated. Decorations move
+    /// with its ops, forced ones only if `forces` is set, and the touched lines are marked. On new line endings decorations keep their
+    /// lines and columns, and lines keep their marks.
     pub fn follow(&mut self, change: &Change, way: Way, forces: bool)
         requires { CanFollow way self.old change.now }
         ensures text { flat_text self.new.text ≡ led way change.now (flat_text self.old.text) }
@@ -45,7 +45,7 @@ impl Page {
         }
     }
 
-    // Carries out the ops, whose texts may lie in the buffers already, at the places that they have, if any.
+    // Carries out the ops. Texts with a known place are reused from the buffers.
     fn carry(&mut self, ops: &PlacedBatch, forces: bool)
         requires { CanApply self.old ops.now }
         ensures text { flat_text self.new.text
@@ -71,7 +71,7 @@ impl Page {
         }
     }
 
-    // Puts the text to which the recast leads this way in the place of the other.
+    // Replaces the text by the one to which the recast leads this way.
     fn recast(&mut self, recast: &PlacedRecast, way: Way)
         requires text { text_from way recast.now ≡ flat_text self.old.text }
         requires room { HasRoom self.old (need_of_ops (ops_by way (Endings recast.now))) }
@@ -92,7 +92,7 @@ impl Page {
         self.decorations.carry(side.moves());
     }
 
-    /// Leads the page along the changes of the step this way, for which there is room. It takes no memory.
+    /// Carries out all changes of the step this way. Room for them is reserved, so nothing is allocated.
     pub fn lead(&mut self, step: &Element<Change>, way: Way)
         requires { CanLead way self.old (step_of step.now).changes }
         ensures text { flat_text self.new.text
@@ -112,8 +112,7 @@ impl Page {
     }
 }
 
-// The place of the change that comes next, after so many others: the last change is taken back first, and the first one made
-// again first.
+// Returns the index of the next change after `done` of `count`: from the last one on the way back, else from the first one.
 pub(crate) fn place_at(way: Way, count: usize, done: usize) -> usize
     requires { done < count }
     ensures { result ≡ place_at way count done }

@@ -19,21 +19,21 @@ use std::alloc::{AllocError, Global};
 use steps::Steps;
 
 impl Page {
-    /// The last parse, be it of the text of now or of an earlier one. None before the first one.
+    /// Returns the last parse, of the present text or an earlier one; None before the first parse.
     pub fn parsed(&self) -> Option<&Parsed>
         ensures { option_copied result ≡ told_parse self.now.parsed }
     {
         self.last.parsed()
     }
 
-    /// Whether the tree of the last parse is that of the text of now.
+    /// Returns whether the last parse is of the present text.
     pub fn is_fresh(&self) -> bool
         ensures { result ≡ is_fresh self.now }
     {
         self.last.fresh().is_some()
     }
 
-    /// The tree of the last parse, which is that of the text of now.
+    /// Returns the tree of the last parse, which is of the present text.
     pub fn tree(&self) -> &Node
         requires { is_fresh self.now ≡ true }
         ensures tree { fresh_tree self.now.tree self.now.marks ≡ Some result.now }
@@ -42,8 +42,8 @@ impl Page {
         self.last.fresh().unwrap()
     }
 
-    /// Parses the text again, where the tree of the last parse is not that of it. An error comes only there, and leaves all
-    /// as it was. Each call that asks the old text is a step.
+    /// Parses the text again unless the last parse is of the present text. Fails only when it parses; everything is then unchanged. A step
+    /// is a call that asks the old text.
     pub fn renew<L>(&mut self, steps: &mut Steps<L>) -> Result<(), AllocError>
         ensures parse { Renews result self.old self.new }
         ensures sure { is_fresh self.old ≡ true → OnErr result ⊥ }
@@ -58,9 +58,9 @@ impl Page {
         Ok(())
     }
 
-    /// Appends the brackets of the lines `from` to `to`, both counted from 0 and both included, in the order of the text. The
-    /// text is parsed again where the tree of the last parse is not that of it. After an error `out` is as it was, and so is
-    /// the page. Each call that asks the old text is a step.
+    /// Appends the brackets of the lines `from` to `to`, both counted from 0 and both included, in the order of the text. Parses the text
+    /// first unless the last parse is of the present text. On an error `out` and the page are unchanged. A step is a call that asks the old
+    /// text.
     pub fn brackets_in<L>(
         &mut self,
         from: u64,
@@ -85,8 +85,8 @@ impl Page {
         Ok(())
     }
 
-    // The parse of the text, with what may be taken over of the last one, and the states of its lines. It reads the lines alone
-    // that are new or begin in another state. Each call that asks the old text is a step.
+    // Parses the text, and returns the states of its lines too. Reuses the last parse: reads only lines that are new or begin in another
+    // state. A step is a call that asks the old text.
     fn parse_again<L>(&self, steps: &mut Steps<L>) -> Result<(ReadParse, LineStates), AllocError>
         ensures parsed { IfOk result (λ new. IsParseOf self.now.scanner self.now.text.units
             self.now.states self.now.marks new.0) }
@@ -100,7 +100,7 @@ impl Page {
         let settled = self.last.settle(self.alloc, table, hiding, &mut lines)?;
         let old = self.last.old(self.alloc, &settled);
         let parsed = reparse(self.alloc, old, &settled, table, hiding, &mut lines, steps)?;
-        // It tells that no list of the tree is high.
+        // For the proof: no list of the tree is high.
         let _highest = parsed.tree().highest();
         let parse = ReadParse {
             parsed,

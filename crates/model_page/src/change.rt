@@ -1,4 +1,4 @@
-//! Changes that were carried out, and the room that a text is led along them in.
+//! Changes that were carried out, and the room to repeat them or take them back.
 
 ghost use Rattle.std.specs.Prelude.{◌≡◌, ◌≤◌, IfOk, length};
 ghost use Rattle.std.specs.List.{All};
@@ -17,17 +17,17 @@ use std::alloc::{AllocError, Global};
 use text_batches::{joined, need_of_text};
 use text_buffer::{Need, TextBuffer};
 
-/// Which way a page is led along changes.
+/// The way in which changes are carried out.
 #[derive(Clone, Copy)]
 pub enum Way {
-    /// The changes are taken back.
+    /// Takes changes back.
     Back,
-    /// The changes are made again.
+    /// Makes changes again.
     On,
 }
 
 impl Way {
-    /// Whether decorations that an op forces are moved so.
+    /// Returns whether ops force decorations on this way.
     pub(crate) fn forces(self) -> bool
         ensures { result ≡ forces self }
     {
@@ -47,17 +47,17 @@ impl Way {
 /// A change that was carried out.
 #[derive(Drop)]
 pub enum Change {
-    /// A batch, and the one that takes it back.
+    /// A batch and its inverse.
     Ops {
         batch: PlacedBatch,
         inverse: PlacedBatch,
     },
-    /// The line endings became those of another kind.
+    /// New line endings.
     Endings(PlacedRecast),
 }
 
 impl Change {
-    /// The batch as a change, with the one that takes it back, where the text is the one before it.
+    /// Makes the change of a batch. `text` is the text before it.
     pub fn of_batch(alloc: Global, batch: Batch, text: &TextBuffer) -> Result<Change, AllocError>
         requires standing { StandFrom 0 text.now.units batch }
         requires fits { length (applied_from 0 text.now.units batch) ≤ most_units }
@@ -72,7 +72,7 @@ impl Change {
     }
 }
 
-/// The one of the two batches that leads a text this way.
+/// Returns the batch for this way: the batch or its inverse.
 pub(crate) fn batch_for<'b>(
     batch: &'b PlacedBatch,
     inverse: &'b PlacedBatch,
@@ -86,7 +86,7 @@ pub(crate) fn batch_for<'b>(
     }
 }
 
-/// What the change asks for this way.
+/// Returns the room that the change needs this way.
 pub fn need_of(change: &Change, way: Way) -> Need
     requires { text_units (ops_by way change.now) ≤ most_units }
     ensures { result ≡ need_of_ops (ops_by way change.now) }
@@ -97,7 +97,7 @@ pub fn need_of(change: &Change, way: Way) -> Need
     }
 }
 
-/// What the changes of the step ask for this way. An error where that is more than there may be room for.
+/// Returns the room that the changes of the step need this way. Fails if that is more than can be reserved.
 pub fn need_of_step(step: &Element<Change>, way: Way) -> Result<Need, AllocError>
     requires { All (λ c. text_units (ops_by way c) ≤ most_units) (step_of step.now).changes }
     ensures { IfOk result (λ need. need ≡ need_along way (step_of step.now).changes) }

@@ -1,4 +1,4 @@
-//! Changes as the batches that lead along them.
+//! Changes as batches.
 
 ghost use Rattle.std.specs.Prelude.{◌≡◌, IfOk};
 ghost use Rattle.edit_stack.specs.Element.{step_of};
@@ -12,7 +12,7 @@ use edit_stack::Element;
 use std::alloc::{AllocError, Global};
 use unit_text::Flat;
 
-/// A copy of the batch that leads along the change this way.
+/// Copies the batch that is carried out for the change this way.
 pub fn batch_along(alloc: Global, change: &Change, way: Way) -> Result<Batch, AllocError>
     ensures { IfOk result (λ batch. batch ≡ ops_by way change.now) }
 {
@@ -25,7 +25,7 @@ pub fn batch_along(alloc: Global, change: &Change, way: Way) -> Result<Batch, Al
     }
 }
 
-/// Copies of the batches that lead along the step this way, in the order in which they are carried out.
+/// Copies the batches that are carried out for the step this way, in order.
 pub fn batches_along(
     alloc: Global,
     step: &Element<Change>,

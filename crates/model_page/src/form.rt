@@ -1,4 +1,4 @@
-//! How the history keeps a batch: one short op in place, or all ops behind a pointer.
+//! How the history stores a batch: one short op inline, or all ops behind a pointer.
 
 ghost use Rattle.std.specs.Prelude.{◌≡◌, ◌≤◌, [], ◌∷◌, length, IfSome};
 ghost use Rattle.batch_rules.specs.Batches.{inverse_from};
@@ -12,16 +12,16 @@ use text_lengths::Span;
 use text_rules::Op;
 use unit_text::Flat;
 
-/// The most units of a text that is kept in place.
+/// The most units of a text that is stored inline.
 pub(crate) const MOST_SHORT: usize = 4;
 
-/// Where a text lay in the buffers when it was last put into a document, if that is known.
+/// The span of the buffers in which a text was put last, if known.
 pub(crate) type Place = Cell<Option<ChunkSpan>>;
 
-/// A batch as it is kept. Its parts lie in an order that leaves no gap, since most of what a history keeps is these.
+/// A stored batch. Its fields are ordered to leave no padding, since these make up most of a history.
 #[derive(Drop)]
 pub(crate) enum Form {
-    /// One op, which takes `taken` units away from `start` on and puts the first `len` of these units there.
+    /// One op. It removes `taken` units from `start` on and inserts the first `len` of the stored units.
     Short {
         len: u8,
         force: bool,
@@ -29,7 +29,7 @@ pub(crate) enum Form {
         units: [u16; MOST_SHORT],
         start: u64,
     },
-    /// Any ops.
+    /// Any number of ops.
     Many(Box<PlacedOps>),
 }
 
@@ -37,11 +37,11 @@ pub(crate) enum Form {
 #[derive(Drop)]
 pub(crate) struct PlacedOps {
     pub(crate) batch: Batch,
-    /// One for each op, or none at all.
+    /// One for each op, or empty.
     pub(crate) places: Vec<Place>,
 }
 
-/// The op in place; None where it is too long for that.
+/// Stores the op inline; None if it is too long.
 pub(crate) fn short(span: Span, text: &[u16], force: bool) -> Option<Form>
     requires { span.start ≤ span.end }
     ensures { IfSome result (IsKeptAs (op_with span text.now force ∷ [])) }
@@ -61,7 +61,7 @@ pub(crate) fn short(span: Span, text: &[u16], force: bool) -> Option<Form>
     })
 }
 
-/// The op that takes this one back, in place; None where it is too long for that.
+/// Stores the inverse of the op inline; None if it is too long.
 pub(crate) fn short_inverse(op: &Op, text: &TextBuffer) -> Option<Form>
     requires ordered { op.now.span.start ≤ op.now.span.end }
     requires within { op.now.span.end ≤ length text.now.units }

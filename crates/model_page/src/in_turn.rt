@@ -1,4 +1,4 @@
-//! Changes as edits that are carried out one after another.
+//! Changes as edits in sequence.
 
 ghost use Rattle.std.specs.Prelude.{◌≡◌, ◌∷◌, ◌<◌, ◌≤◌, [], length, MatchOption};
 ghost use Rattle.std.specs.Option.{ForNone};
@@ -14,20 +14,19 @@ use edit_stack::Element;
 use std::marker::Model;
 use text_lengths::Span;
 
-/// One of the edits that lead from a text to another, one after another: the text takes the place of the span, whose offsets count in
-/// the text that the edits before it left.
+/// One of a sequence of edits: the text replaces the span. The offsets refer to the text after the edits before it.
 #[derive(Clone, Copy)]
 pub struct ContentChange<'c> {
     pub span: Span,
     pub text: &'c [u16],
 }
 
-/// The edits of a change on a way that are left to tell. Contracts see these.
+/// The remaining edits of a change on a way. Contracts see them as a list.
 #[derive(Drop)]
 struct ChangeEdits<'c> {
     change: &'c Change,
     way: Way,
-    /// So many ops of the batch, or lines of the text, are left.
+    /// How many ops of the batch, or lines of the text, remain.
     left: usize,
 }
 
@@ -51,7 +50,7 @@ impl<'c> ChangeEdits<'c> {
         ChangeEdits { change, way, left }
     }
 
-    /// The next one; None where all are told.
+    /// Returns the next edit; None after the last one.
     fn next(&mut self) -> Option<ContentChange<'c>>
         ensures told { MatchOption result (self.old ≡ [])
             (λ change. self.old ≡ told_op change ∷ self.new) }
@@ -73,7 +72,7 @@ impl<'c> ChangeEdits<'c> {
     }
 }
 
-// How many ops the batch of the change has on the way, or how many lines its texts.
+// Returns the number of ops of the batch on this way, or of lines of the texts.
 fn parts_of(change: &Change, way: Way) -> usize
     ensures count { result ≡ parts_along way change.now }
     ensures all { edits_of_first result way change.now ≡ edits_along way change.now }
@@ -84,12 +83,12 @@ fn parts_of(change: &Change, way: Way) -> usize
     }
 }
 
-/// The edits of a step on a way that are left to tell, in the order in which they are carried out. Contracts see these.
+/// The remaining edits of a step on a way, in order. Contracts see them as a list.
 #[derive(Drop)]
 pub struct StepEdits<'s> {
     step: &'s Element<Change>,
     way: Way,
-    /// So many changes are told, or begun.
+    /// How many changes were begun.
     done: usize,
     edits: Option<ChangeEdits<'s>>,
 }
@@ -109,7 +108,7 @@ impl<'s> Model for StepEdits<'s> {
 }
 
 impl<'s> StepEdits<'s> {
-    /// The edits of the changes behind the first `done` ones on the way.
+    /// Starts after the first `done` changes on the way.
     pub fn new(step: &'s Element<Change>, way: Way, done: usize) -> StepEdits<'s>
         requires { done ≤ length (step_of step.now).changes }
         ensures { result ≡ all_edits_along way (rest_on way done (step_of step.now).changes) }
@@ -122,7 +121,7 @@ impl<'s> StepEdits<'s> {
         }
     }
 
-    /// The next one; None where all are told.
+    /// Returns the next edit; None after the last one.
     pub fn next(&mut self) -> Option<ContentChange<'s>>
         ensures told { MatchOption result (self.old ≡ [])
             (λ change. self.old ≡ told_op change ∷ self.new) }
@@ -142,7 +141,7 @@ impl<'s> StepEdits<'s> {
     }
 }
 
-// The next edit of the change that is begun; None where all of its edits are told, or none is begun.
+// Returns the next edit of the present change; None after its last edit, or if no change was begun.
 fn next_begun<'s>(edits: &mut Option<ChangeEdits<'s>>) -> Option<ContentChange<'s>>
     ensures told { MatchOption result (begun edits.old ≡ [])
         (λ change. begun edits.old ≡ told_op change ∷ begun edits.new) }

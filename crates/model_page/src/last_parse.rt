@@ -1,4 +1,4 @@
-//! The last parse of the text, and what each line of the text of now is to it.
+//! The last parse, and for each line of the present text its mark: a line of that parse, or new.
 
 ghost use Rattle.std.specs.Prelude.{◌≡◌, ◌+◌, ◌-◌, ◌<◌, ◌≤◌, ◌^◌, ◌∷◌, [], None, Some, false, true, length, is_some, replicate, IfOk, OnOk};
 ghost use Rattle.std.specs.Option.{option_copied};
@@ -27,7 +27,7 @@ use text_buffer::TextBuffer;
 use text_lengths::Dirty;
 use unit_text::Kind;
 
-/// A parse, and the lines of the text that were read for it.
+/// A parse, and the lines of the text that it read.
 #[derive(Drop)]
 pub(crate) struct ReadParse {
     pub parsed: Parsed,
@@ -44,7 +44,7 @@ impl Model for ReadParse {
     ghost view = { λ p. record { parsed = p.parsed; read = p.read.numbers } };
 }
 
-/// The last parse, where there was one, and a mark for each line of the text of now.
+/// The last parse, if any, and a mark for each line of the present text.
 #[derive(Drop)]
 pub(crate) struct LastParse {
     last: Option<ReadParse>,
@@ -84,7 +84,7 @@ impl LastParse {
         }
     }
 
-    /// No parse, for a text of so many lines.
+    /// No parse, for a text of this many lines.
     pub(crate) fn of_new_lines(alloc: Global, lines: u64) -> LastParse
         requires some { 1 ≤ lines }
         requires fits { lines < 2 ^ 62 }
@@ -99,7 +99,7 @@ impl LastParse {
         }
     }
 
-    /// Makes room for so many edits. An error leaves parse and marks as they were, and room that was there stays.
+    /// Reserves room for this many edits. Never reduces it. On an error the parse and the marks are unchanged.
     pub(crate) fn reserve(&mut self, edits: u64) -> Result<(), AllocError>
         ensures room { OnOk result (edits ≤ self.new.spare) }
         ensures kept { self.old.spare ≤ self.new.spare }
@@ -111,7 +111,7 @@ impl LastParse {
         self.states.reserve(edits)
     }
 
-    /// Marks the lines that an edit of the text touched, as it answered. There is room for it.
+    /// Marks the lines that an edit touched. Room for it is reserved.
     pub(crate) fn mark(&mut self, dirty: Dirty)
         requires room { 0 < self.old.spare }
         requires first { 1 ≤ dirty.first }
@@ -129,7 +129,7 @@ impl LastParse {
         self.states.edit(dirty.first, dirty.old, dirty.new);
     }
 
-    /// The tree, where it is that of the text of now.
+    /// Returns the tree if it is of the present text.
     pub(crate) fn fresh(&self) -> Option<&Node>
         ensures { option_copied result ≡ fresh_tree self.now.tree self.now.marks }
     {
@@ -140,7 +140,7 @@ impl LastParse {
         }
     }
 
-    /// The last parse, where there was one.
+    /// Returns the last parse, if any.
     pub(crate) fn parsed(&self) -> Option<&Parsed>
         ensures { option_copied result ≡ told_parse self.now.parsed }
     {
@@ -150,8 +150,8 @@ impl LastParse {
         }
     }
 
-    /// The lines of the text of now, settled for a parse. Where no comment goes on from line to line all begin in code: none
-    /// is asked for, and no memory is wanted.
+    /// Settles the lines of the present text for a parse. Without block comments all lines begin in code: no line is read and nothing is
+    /// allocated.
     pub(crate) fn settle<'s>(
         &'s self,
         alloc: Global,
@@ -173,7 +173,7 @@ impl LastParse {
         self.states.settle(alloc, table, hiding, lines)
     }
 
-    /// The tree of the last parse, under the marks of settled lines.
+    /// Returns a reader of the tree under the marks of the settled lines.
     pub(crate) fn old<'s>(&'s self, alloc: Global, settled: &'s Settled<'s>) -> OldReader<'s>
         ensures tree { result.tree ≡ self.now.tree }
         ensures marks { result.marks ≡ settled.now.marks }
@@ -190,7 +190,7 @@ impl LastParse {
         }
     }
 
-    /// Puts the parse of the text of now, and the states of its lines, in place of the old ones.
+    /// Stores the parse of the present text and the states of its lines.
     pub(crate) fn put(&mut self, parse: ReadParse, states: LineStates)
         requires { length states.begins ≡ length self.old.marks }
         ensures parsed { self.new.parsed ≡ Some parse }
@@ -201,14 +201,14 @@ impl LastParse {
         ensures rules { IsTree parse.parsed.tree }
         ensures room { self.old.spare ≤ self.new.spare }
     {
-        // It tells that the tree meets the rules of nodes.
+        // For the proof: the tree meets the rules of nodes.
         let _length = parse.parsed.tree().length();
         self.states.adopt(states);
         self.last = Some(parse);
     }
 }
 
-/// The text of these units of the kind, which was not parsed yet.
+/// Makes a text of these units and this kind, without a parse.
 pub(crate) fn unparsed(
     alloc: Global,
     units: &[u16],

@@ -1,5 +1,4 @@
-//! The text side of a document: a text, the decorations that stand at it, and the last parse of its brackets, which edits
-//! change together.
+//! The text side of a document: a text with its decorations and the last parse of its brackets. Edits change them together.
 #![tactic(auto)]
 
 mod apply;
@@ -16,7 +15,7 @@ mod placed;
 mod text_lines;
 
 pub use change::{Change, Way, need_of, need_of_step};
-pub use compact::LEAST_COMPACTED;
+pub use compact::{MOST_COMPACTED, MOST_HELD, MOST_TIMES_HELD};
 pub use events::{batch_along, batches_along};
 pub use in_turn::{ContentChange, StepEdits};
 pub use page::Page;

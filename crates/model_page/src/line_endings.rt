@@ -1,4 +1,4 @@
-//! The line endings that differ between the two texts of a recast, from the last line back.
+//! The line endings in which the two texts of a recast differ, from the last line back.
 
 ghost use Rattle.std.specs.Prelude.{◌≡◌, ◌+◌, ◌<◌, ◌≤◌, [], ◌∷◌, ◌++◌, length, IfSome};
 ghost use Rattle.std.specs.Option.{ForNone};
@@ -14,8 +14,8 @@ use crate::placed::PlacedRecast;
 use decoration_rules::LineMove;
 use text_lengths::Span;
 
-/// The last of the first `left` lines whose ending differs: how many lines stand before it, and the edit of its ending. None where
-/// no ending differs. It reads the texts where they are kept.
+/// Finds the last of the first `left` lines whose ending differs. Returns how many lines are before it, and the edit of its ending. None if
+/// no ending differs. Copies no text.
 pub(crate) fn last_ending<'c>(
     recast: &'c PlacedRecast,
     way: Way,
@@ -37,7 +37,7 @@ pub(crate) fn last_ending<'c>(
     None
 }
 
-// The edit of the ending of the line of that number, from 0 on; None where both texts have the same ending there.
+// Returns the edit of the ending of line `at`, from 0; None if both texts have the same ending there.
 fn ending_at<'c>(
     from: &[u16],
     to: &'c [u16],
@@ -59,7 +59,7 @@ fn ending_at<'c>(
     Some(ContentChange { span, text })
 }
 
-// Where the ending of the line of that number lies in the two texts.
+// Returns the spans of the ending of line `at` in the two texts.
 fn endings_of(from: &[u16], to: &[u16], moves: &[LineMove], at: usize) -> (Span, Span)
     requires contents { HaveSameContents from.now to.now }
     requires moves { moves.now ≡ line_moves from.now to.now }
@@ -82,7 +82,7 @@ fn endings_of(from: &[u16], to: &[u16], moves: &[LineMove], at: usize) -> (Span,
     (old, new)
 }
 
-// Where the line of that number starts in the two texts. Behind the last line that is where they end.
+// Returns the offsets at which line `at` starts in the two texts. After the last line these are their lengths.
 fn starts_of(from: &[u16], to: &[u16], moves: &[LineMove], at: usize) -> (u64, u64)
     requires contents { HaveSameContents from.now to.now }
     requires moves { moves.now ≡ line_moves from.now to.now }

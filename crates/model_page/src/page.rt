@@ -1,4 +1,4 @@
-//! A page: what a document has beside its versions and its history.
+//! A page: a document without its versions and its history.
 
 ghost use Rattle.std.specs.Prelude.{◌≡◌, ◌≤◌, ◌&&◌, [], None, Some, length, if◌then◌else◌, IfOk, OnOk};
 ghost use Rattle.batch_rules.specs.Batches.{most_units};
@@ -20,10 +20,10 @@ use text_lengths::Position;
 use text_rules::Op;
 use unit_text::Kind;
 
-/// A text, the decorations that stand at it, and the last parse of its brackets.
+/// A text with its decorations and the last parse of its brackets.
 ///
-/// It has no more units than a text may have, its decorations lie in it, and the tree of the last parse is that of each
-/// line that no edit touched since.
+/// The text is within the limit of units, and the decorations are within the text. The tree of the last parse fits every line that no edit
+/// has touched since.
 #[derive(Drop)]
 pub struct Page {
     pub(crate) alloc: Global,
@@ -52,7 +52,7 @@ impl Model for Page {
 }
 
 impl Page {
-    /// An empty text, with the standard brackets.
+    /// Makes an empty text with the standard brackets.
     pub fn new(alloc: Global) -> Page
         ensures page { IsNew [] Mixed standard_scanner result }
         ensures pieces { length result.text.spans ≡ 0 }
@@ -67,7 +67,7 @@ impl Page {
         }
     }
 
-    /// The text of these units, all of whose line endings are of the kind, with these brackets, which comments and strings hide.
+    /// Makes a page of these units, whose line endings are of the kind, with these brackets. Those in comments and strings are ignored.
     pub fn open(
         alloc: Global,
         units: &[u16],
@@ -90,7 +90,7 @@ impl Page {
         })
     }
 
-    /// The text.
+    /// Returns the text.
     pub fn text(&self) -> &TextBuffer
         ensures text { result.now ≡ self.now.text }
         ensures endings { IsOfKind self.now.text.kind self.now.text.units }
@@ -99,7 +99,7 @@ impl Page {
         &self.text
     }
 
-    /// The decorations. They lie in the text.
+    /// Returns the decorations. They are within the text.
     pub fn decorations(&self) -> &DecoSet
         ensures decorations { result.now ≡ self.now.decorations }
         ensures inside { AreIn (length self.now.text.units) self.now.decorations }
@@ -107,7 +107,7 @@ impl Page {
         &self.decorations
     }
 
-    /// Takes decorations of an owner out and puts new ones in, as `DecoSet::delta` does.
+    /// Removes decorations of an owner and adds new ones, as `DecoSet::delta` does.
     pub fn decorate(
         &mut self,
         owner: u64,
@@ -121,7 +121,7 @@ impl Page {
         self.decorations.delta(owner, remove, add, &self.text)
     }
 
-    /// Makes room for edits. An error leaves the page as it was, and room that was there stays.
+    /// Reserves room for edits. Never reduces it. On an error the page is unchanged.
     pub fn reserve(&mut self, need: Need) -> Result<(), AllocError>
         ensures room { OnOk result (HasRoom self.new need) }
         ensures kept { KeepsRoom self.old self.new }
@@ -131,16 +131,14 @@ impl Page {
         self.last.reserve(need.edits)
     }
 
-    /// Looks up where the ops start and end, so that they are carried out without a search. Where memory is short it does
-    /// nothing.
+    /// Looks up the ends of the ops, so that carrying them out needs no search. Does nothing if memory is short.
     pub fn seek(&mut self, ops: &[Op])
         ensures { self.new ≡ self.old }
     {
         self.text.seek(ops);
     }
 
-    /// The offset of the position, or None where it is invalid. What is looked up is remembered for the edit that
-    /// comes next.
+    /// Converts a position into an offset; None if it is invalid. Remembers the pieces for the next edit.
     pub fn locate(&mut self, position: Position) -> Option<u64>
         ensures offset { result ≡ (if is_position self.old.text.units position
             then Some (offset_of self.old.text.units position) else None) }

@@ -22,9 +22,9 @@ use text_buffer::{Need, TextBuffer};
 use text_lengths::Span;
 use text_rules::Op;
 
-/// A batch that is carried out time and again, with the places of its texts. Contracts see its ops: nothing rests on the places.
+/// A batch for repeated use, with the places of its texts. Contracts see its ops; nothing depends on the places.
 ///
-/// One op that puts at most four units in takes no memory of its own, and keeps no place.
+/// A single op that inserts at most four units allocates nothing and keeps no place.
 #[derive(Drop)]
 pub struct PlacedBatch {
     form: Form,
@@ -42,7 +42,7 @@ impl Model for PlacedBatch {
     ghost invariant = { λ p. IsKept p.form };
 }
 
-/// One op of a batch, to read.
+/// One op of a batch, to be read.
 #[derive(Clone, Copy)]
 pub(crate) struct OpView<'b> {
     pub(crate) span: Span,
@@ -51,7 +51,7 @@ pub(crate) struct OpView<'b> {
 }
 
 impl PlacedBatch {
-    /// The batch, which was not carried out yet.
+    /// Makes one from a batch that was not carried out yet.
     pub fn of(alloc: Global, batch: Batch) -> Result<PlacedBatch, AllocError>
         ensures { IfOk result (λ placed. placed ≡ batch) }
     {
@@ -75,8 +75,7 @@ impl PlacedBatch {
         })
     }
 
-    /// The batch that takes this one back, where the text is the one before it. It reads the units that this one takes
-    /// away, and no others.
+    /// Makes the inverse of the batch. `text` is the text before it. Reads only the units that the batch removes.
     pub fn inverse_of(
         alloc: Global,
         batch: &Batch,
@@ -96,7 +95,7 @@ impl PlacedBatch {
         }
     }
 
-    /// How many ops it has.
+    /// Returns the number of ops.
     pub(crate) fn len(&self) -> usize
         ensures { result ≡ length self.now }
     {
@@ -106,7 +105,7 @@ impl PlacedBatch {
         }
     }
 
-    /// The op of that number.
+    /// Returns the op with this index.
     pub(crate) fn op(&self, at: usize) -> OpView<'_>
         requires { at < length self.now }
         ensures { op_of result ≡ slice_index_or self.now at (op_of result) }
@@ -137,7 +136,7 @@ impl PlacedBatch {
         }
     }
 
-    /// What is known of the place of the text of that number.
+    /// Returns the place of the text with this index, if known.
     pub(crate) fn known(&self, at: usize) -> Option<ChunkSpan> {
         match &self.form {
             Form::Short { .. } => None,
@@ -145,7 +144,7 @@ impl PlacedBatch {
         }
     }
 
-    /// Notes what is known now.
+    /// Stores the place of the text.
     pub(crate) fn note(&self, at: usize, known: Option<ChunkSpan>) {
         if let Form::Many(kept) = &self.form {
             if let Some(place) = kept.places.get(at) {
@@ -154,7 +153,7 @@ impl PlacedBatch {
         }
     }
 
-    /// What its ops ask for.
+    /// Returns the room that its ops need.
     pub(crate) fn need(&self) -> Need
         requires { FollowFrom 0 self.now → text_units self.now ≤ most_units }
         ensures { result ≡ need_of_ops self.now }
@@ -165,7 +164,7 @@ impl PlacedBatch {
         }
     }
 
-    /// A copy of the batch by itself.
+    /// Copies the batch.
     pub(crate) fn copied(&self, alloc: Global) -> Result<Batch, AllocError>
         ensures { IfOk result (λ batch. batch ≡ self.now) }
     {
@@ -179,7 +178,7 @@ impl PlacedBatch {
     }
 }
 
-// A place for the text of each op, where one of them is longer than what is kept in place.
+// Makes an unknown place for each op, or none at all if all texts are stored inline.
 fn places_for(alloc: Global, ops: &[Op]) -> Result<Vec<Place>, AllocError> {
     if ops.iter().all(|op| op.text.as_slice().len() <= MOST_SHORT) {
         return Ok(Vec::new(alloc));
@@ -191,13 +190,13 @@ fn places_for(alloc: Global, ops: &[Op]) -> Result<Vec<Place>, AllocError> {
     Ok(places)
 }
 
-/// A recast that is carried out time and again, with the places of its two texts. Contracts see the recast: nothing rests on the places.
+/// A recast for repeated use, with the places of its two texts. Contracts see the recast; nothing depends on the places.
 #[derive(Drop)]
 pub struct PlacedRecast {
     kept: Box<KeptRecast>,
 }
 
-/// A recast, and where its two texts lie.
+/// A recast and the places of its two texts.
 #[derive(Drop)]
 pub(crate) struct KeptRecast {
     recast: Recast,
@@ -214,7 +213,7 @@ impl Model for PlacedRecast {
 }
 
 impl PlacedRecast {
-    /// The recast, which was not carried out yet.
+    /// Makes one from a recast that was not carried out yet.
     pub fn of(alloc: Global, recast: Recast) -> Result<PlacedRecast, AllocError>
         ensures { IfOk result (λ placed. placed ≡ recast) }
     {
@@ -228,7 +227,7 @@ impl PlacedRecast {
         })
     }
 
-    /// The text that it leads to this way.
+    /// Returns the text to which it leads this way.
     pub(crate) fn side(&self, way: Way) -> &Side
         ensures text { record { units = result.now.units; kind = result.now.kind } ≡ text_to way self.now }
         ensures moves { result.now.moves ≡ line_moves (text_from way self.now).units (text_to way self.now).units }
@@ -243,7 +242,7 @@ impl PlacedRecast {
         }
     }
 
-    /// Where that text lies, if that is known.
+    /// Returns the place of that text, if known.
     pub(crate) fn place(&self, way: Way) -> &Place {
         match way {
             Way::Back => &self.kept.before,

@@ -1,4 +1,4 @@
-//! The text's lines, as a parse asks for them.
+//! The lines of a text, as a parse reads them.
 
 ghost use Rattle.std.specs.Prelude.{◌≡◌, ◌<◌, ◌^◌, [], length};
 
@@ -7,7 +7,7 @@ use std::alloc::AllocError;
 use steps::Trail;
 use text_buffer::{LineReader, TextBuffer};
 
-/// The lines of a text, and the numbers of those that were asked for, which only proofs read.
+/// A reader of the lines of a text. The numbers of the lines that were read are for proofs only.
 #[derive(Drop)]
 pub(crate) struct TextLines<'t> {
     lines: LineReader<'t>,
@@ -16,7 +16,7 @@ pub(crate) struct TextLines<'t> {
 }
 
 impl<'t> TextLines<'t> {
-    /// The lines of the text, of which none was asked for.
+    /// Makes a reader. No line was read yet.
     pub(crate) fn new(text: &'t TextBuffer) -> TextLines<'t>
         ensures units { result.lines ≡ text.now.units }
         ensures asked { result.asked.numbers ≡ [] }

@@ -1,5 +1,5 @@
 -- Cutting a list of pieces, and what the parts have.
-use Rattle.std.proofs.Common.{◌≡◌, ℕ, ◌+◌, ◌-◌, ◌<◌, ◌≤◌, Option, Some, List, [], ◌∷◌, ◌++◌, drop, refl, ap, sym, subst, ◌∙◌, inl, inr, zero-add, arith}
+use Rattle.std.proofs.Common.{◌≡◌, ℕ, ◌+◌, ◌-◌, ◌<◌, ◌≤◌, Option, List, [], ◌∷◌, ◌++◌, length, drop, refl, ap, sym, subst, ◌∙◌, inl, inr, zero-add, arith}
 use Rattle.std.specs.List.{All}
 use Rattle.std.specs.Option.{ForSome}
 use Rattle.std.proofs.lemmas.Bool.{lt-leb, le-leb, cases_lt, cases_eq, ne_eqb}
@@ -113,11 +113,35 @@ module _ (b : List (List ℕ)) where
   pub some_few : (piece : Option Piece) → ForSome piece (IsPieceOf b) → ForSome piece few_breaks
   some_few piece counted p e = piece_few p (counted p e)
 
-  pub one_few : (p : Piece) → IsPieceOf b p → ForSome (Some p) few_breaks
-  one_few p is q e = let same : p ≡ q = cc in subst few_breaks same (piece_few p is)
-
   pub span_few : (p : Piece) (span : ChunkSpan) → LiesIn b span → p ≡ piece_of b span → few_breaks p
   span_few p span lies e = subst few_breaks (sym e) (piece_few (piece_of b span) (record { inside = lies; breaks = refl }))
 
   pub pieces_few : (ps : List Piece) → All (IsPieceOf b) ps → All few_breaks ps
   pieces_few ps all = All-weaker (IsPieceOf b) few_breaks piece_few ps all
+
+  -- where something is left, what stands behind the pieces is left too
+  pub back_some : (n : ℕ) (ps qs : List Piece) → 0 < length (back b n ps) → back b n (ps ++ qs) ≡ back b n ps ++ qs
+  back_some n [] qs some = absurd (omega (arith, some))
+  back_some n (p ∷ ps) qs some = elim (cases_lt n p.span.units) [
+    | inr past ↦ (let first = back_past n p ps past in
+        back_past n p (ps ++ qs) past ∙ back_some (n - p.span.units) ps qs (omega (arith, some, ap length first)) ∙ ap (λ rs. rs ++ qs) (sym first))
+    | inl within ↦ elim (cases_eq n 0) [
+      | inl none ↦ (
+          subst (λ (k : ℕ). back b k (p ∷ ps ++ qs) ≡ back b k (p ∷ ps) ++ qs) (sym none)
+          (back_none p (ps ++ qs) (omega arith) ∙ ap (λ rs. rs ++ qs) (sym (back_none p ps (omega arith)))))
+      | inr other ↦ back_part n p (ps ++ qs) (omega arith) within ∙ ap (λ rs. rs ++ qs) (sym (back_part n p ps (omega arith) within))
+    ]
+  ]
+
+  -- where nothing is left, the other units go from what stands behind the pieces
+  pub back_all : (n : ℕ) (ps qs : List Piece) → back b n ps ≡ [] → back b n (ps ++ qs) ≡ back b (n - unit_count ps) qs
+  back_all n [] qs none = let same : n ≡ n - unit_count [] = omega arith in ap (λ k. back b k qs) same
+  back_all n (p ∷ ps) qs none = elim (cases_lt n p.span.units) [
+    | inr past ↦ (
+        let rest = back_all (n - p.span.units) ps qs (sym (back_past n p ps past) ∙ none) in
+        let same : n - p.span.units - unit_count ps ≡ n - unit_count (p ∷ ps) = omega (arith, units-cons p ps) in
+        back_past n p (ps ++ qs) past ∙ rest ∙ ap (λ k. back b k qs) same)
+    | inl within ↦ (
+        let left = units-back n (p ∷ ps) in
+        absurd (omega (arith, left, ap unit_count none, units-cons p ps)))
+  ]

@@ -3,37 +3,34 @@ use Rattle.std.proofs.Common.{◌≡◌, ℕ, ◌+◌, ◌≤◌, Bool, true, fa
 use Rattle.std.specs.Option.{IfSome, option_map}
 use Rattle.chunk_buffers.specs.declared.span.ChunkSpan.{ChunkSpan}
 use Rattle.piece_tree.specs.declared.piece.Piece.{Piece}
+use Rattle.piece_tree.specs.declared.piece.PieceId.{PieceId}
 use Rattle.piece_tree.specs.declared.piece.PieceSum.{PieceSum}
-use Rattle.piece_tree.specs.Pieces.{IsFound, sum_of, unit_count, piece_of, listed, span_of, goes_on, prolonged, followed_by}
-use Rattle.piece_tree.specs.Inside.{entries_of, found_at, in_order}
-use Rattle.piece_tree.specs.Runs.{HeadsRest}
-use Rattle.piece_tree.proofs.Sums.{entries-append, units-cons}
+use Rattle.piece_tree.specs.Pieces.{Entry, IsFound, pieces_of, sum_of, unit_count, piece_of, listed, span_of, goes_on, prolonged, followed_by}
+use Rattle.piece_tree.specs.Runs.{entry_at, found_in}
+use Rattle.piece_tree.specs.Splicing.{HeadsRest}
+use Rattle.piece_tree.proofs.Sums.{units-cons}
 use Rattle.piece_tree.proofs.Prolonged.{followed_on, followed_apart}
 
--- it stands right behind the items before
-pub heads_place : (us : List (ℕ × Piece)) (ps : List Piece) (id : ℕ) (x : Piece) (new : List (ℕ × Piece)) → HeadsRest us ps (Some (id, x)) new
-    → (ws : List (ℕ × Piece)) × (new ≡ us ++ (id, x) ∷ ws)
+-- it stands right behind the entries before
+heads_place : (us : List Entry) (ps : List Piece) (id : PieceId) (x : Piece) (new : List Entry) → HeadsRest us ps (Some (id, x)) new
+    → (ws : List Entry) × (new ≡ us ++ entry_at id x ∷ ws)
 heads_place us [] id x new none = absurd cc
-heads_place us (p ∷ ps) id x new (name, (ws, told, place)) = (ws, cc)
+heads_place us (p ∷ ps) id x new (name, (ws, told, place)) =
+    let same : ◌≡◌ {A = PieceId × Piece} (name, p) (id, x) = cc in (ws, place ∙ ap (λ (at : PieceId × Piece). us ++ entry_at at.0 at.1 ∷ ws) same)
 
 -- it is the first of the pieces
-heads_first : (us : List (ℕ × Piece)) (p : Piece) (ps : List Piece) (id : ℕ) (x : Piece) (new : List (ℕ × Piece)) → HeadsRest us (p ∷ ps) (Some (id, x)) new → x ≡ p
-heads_first us p ps id x new (name, (ws, told, place)) = let same : ◌≡◌ {A = ℕ × Piece} (id, x) (name, p) = cc in ap (λ (e : ℕ × Piece). e.1) same
+heads_first : (us : List Entry) (p : Piece) (ps : List Piece) (id : PieceId) (x : Piece) (new : List Entry) → HeadsRest us (p ∷ ps) (Some (id, x)) new → x ≡ p
+heads_first us p ps id x new (name, (ws, told, place)) = let same : ◌≡◌ {A = PieceId × Piece} (id, x) (name, p) = cc in ap (λ (e : PieceId × Piece). e.1) same
 
 -- so a look-up tells it
-pub heads_found : (us : List (ℕ × Piece)) (ps : List Piece) (first : Option (ℕ × Piece)) (new : List (ℕ × Piece)) (before : PieceSum) → before ≡ sum_of (in_order us)
-    → HeadsRest us ps first new → IfSome (option_map (found_at before) first) (IsFound (entries_of new))
+pub heads_found : (us : List Entry) (ps : List Piece) (first : Option (PieceId × Piece)) (new : List Entry) (before : PieceSum) → before ≡ sum_of (pieces_of us)
+    → HeadsRest us ps first new → IfSome (option_map (λ at. found_in at.0 at.1 before) first) (IsFound new)
 heads_found us ps None new before sum heads = tt
-heads_found us ps (Some item) new before sum heads =
-    let (ws, place) = heads_place us ps item.0 item.1 new heads in record {
-      earlier = entries_of us;
-      later = entries_of ws;
-      place = ap entries_of place ∙ entries-append us (item ∷ ws);
-      before = sum;
-    }
+heads_found us ps (Some at) new before sum heads =
+    let (ws, place) = heads_place us ps at.0 at.1 new heads in record { earlier = us; later = ws; place = place; before = sum }
 
 -- there is one where there are pieces
-heads_some : (us : List (ℕ × Piece)) (p : Piece) (ps : List Piece) (new : List (ℕ × Piece)) → HeadsRest us (p ∷ ps) None new → ⊥
+heads_some : (us : List Entry) (p : Piece) (ps : List Piece) (new : List Entry) → HeadsRest us (p ∷ ps) None new → ⊥
 heads_some us p ps new (name, (ws, told, place)) = absurd cc
 
 module _ (b : List (List ℕ)) where
@@ -48,9 +45,9 @@ module _ (b : List (List ℕ)) where
   followed_by_head own None = (own, ([], refl, omega arith))
   followed_by_head own (Some span) = followed_head own span (goes_on own.span span) refl
 
-module _ (b : List (List ℕ)) (us : List (ℕ × Piece)) (ps : List Piece) (new : List (ℕ × Piece)) where
+module _ (b : List (List ℕ)) (us : List Entry) (ps : List Piece) (new : List Entry) where
   -- the first of those that a splice puts has the units that stay before what comes
-  heads_units : (left : Option Piece) (span : Option ChunkSpan) (id : ℕ) (x : Piece) → HeadsRest us (followed_by b (listed left) span ++ ps) (Some (id, x)) new
+  heads_units : (left : Option Piece) (span : Option ChunkSpan) (id : PieceId) (x : Piece) → HeadsRest us (followed_by b (listed left) span ++ ps) (Some (id, x)) new
       → unit_count (listed left) ≤ x.span.units
   heads_units None span id x heads = omega arith
   heads_units (Some own) span id x heads =
@@ -59,18 +56,18 @@ module _ (b : List (List ℕ)) (us : List (ℕ × Piece)) (ps : List Piece) (new
       omega (arith, within, units-cons own [], ap (λ (q : Piece). q.span.units) first)
 
   -- so it reaches the offset
-  pub heads_near : (left : Option Piece) (span : Option ChunkSpan) (first : Option (ℕ × Piece)) (before : PieceSum) (offset : ℕ) → before ≡ sum_of (in_order us)
-      → offset ≡ unit_count (in_order us) + unit_count (listed left) → HeadsRest us (followed_by b (listed left) span ++ ps) first new
-      → IfSome (option_map (found_at before) first) (λ found. (found.before.units ≤ offset) × (offset ≤ found.before.units + found.span.units))
+  pub heads_near : (left : Option Piece) (span : Option ChunkSpan) (first : Option (PieceId × Piece)) (before : PieceSum) (offset : ℕ) → before ≡ sum_of (pieces_of us)
+      → offset ≡ unit_count (pieces_of us) + unit_count (listed left) → HeadsRest us (followed_by b (listed left) span ++ ps) first new
+      → IfSome (option_map (λ at. found_in at.0 at.1 before) first) (λ found. (found.before.units ≤ offset) × (offset ≤ found.before.units + found.span.units))
   heads_near left span None before offset sum begins heads = tt
-  heads_near left span (Some item) before offset sum begins heads =
+  heads_near left span (Some at) before offset sum begins heads =
       let units = ap (λ (s : PieceSum). s.units) sum in
-      let reach = heads_units left span item.0 item.1 heads in (omega (arith, units, begins), omega (arith, units, begins, reach))
+      let reach = heads_units left span at.0 at.1 heads in (omega (arith, units, begins), omega (arith, units, begins, reach))
 
   -- and there is one where a piece comes
-  pub heads_none : (left piece : Option Piece) (first : Option (ℕ × Piece)) (before : PieceSum) → option_map (found_at before) first ≡ None
+  pub heads_none : (left piece : Option Piece) (first : Option (PieceId × Piece)) (before : PieceSum) → option_map (λ at. found_in at.0 at.1 before) first ≡ None
       → HeadsRest us (followed_by b (listed left) (span_of piece) ++ ps) first new → piece ≡ None
-  heads_none left piece (Some item) before none heads = absurd cc
+  heads_none left piece (Some at) before none heads = absurd cc
   heads_none left None None before none heads = refl
   heads_none None (Some q) None before none heads = absurd (heads_some us (piece_of b q.span) ps new heads)
   heads_none (Some own) (Some q) None before none heads =

@@ -1,105 +1,107 @@
--- Where a search of the pieces ends.
-use Rattle.std.proofs.Common.{◌≡◌, ℕ, ◌+◌, ◌-◌, ◌<◌, ◌≤◌, ◌^◌, cond, ltb, Option, Some, List, [], ◌∷◌, ◌++◌, inl, inr, ◌⊎◌, ap, sym, subst, ◌∙◌, arith}
-use Rattle.std.proofs.lemmas.Bool.{cases_lt, lt-ltb, le-ltb}
-use Rattle.std.specs.List.{sum_by}
-use Rattle.rb_rules.specs.declared.weave.Turn.{Turn}
-use Rattle.rb_rules.specs.declared.weave.Turn.TheVariants.{Stop, Left, Right}
-use Rattle.rb_rules.specs.Woven as woven
-use Rattle.rb_arena.specs.Searching as searching
-use Rattle.rb_arena.specs.RbTree.{SplitsAt}
+-- Look-ups of pieces, by look-ups of runs.
+use Rattle.std.proofs.Common.{◌≡◌, ℕ, suc, ◌+◌, ◌*◌, ◌<◌, ◌≤◌, ◌^◌, List, [], ◌∷◌, ◌++◌, length, refl, ap, sym, subst, ◌∙◌, arith}
+use Rattle.std.specs.List.{All, sum_by}
+use Rattle.std.proofs.lemmas.List.{map-append, length-append}
+use Rattle.std.proofs.lemmas.List.Elements.{All-head, All-tail}
+use Rattle.std.proofs.lemmas.List.Sums.{sum_by-append}
+use Rattle.std.proofs.Math.Nat.{pow-le-pow_left}
+use Rattle.rb_arena.specs.RbTree.{IsItem, AtItem}
 use Rattle.piece_tree.specs.declared.piece.Piece.{Piece}
 use Rattle.piece_tree.specs.declared.piece.PieceSum.{PieceSum}
 use Rattle.piece_tree.specs.declared.piece.Found.{Found}
 use Rattle.piece_tree.specs.declared.weave.Sought.{Sought}
 use Rattle.piece_tree.specs.declared.weave.Sought.TheVariants.{Offset, Break}
 use Rattle.piece_tree.specs.Pieces.{Entry, IsFound, pieces_of, unit_count, break_count_of, sum_of}
-use Rattle.piece_tree.specs.Searches.{adding, toward, piece_turn}
-use Rattle.piece_tree.specs.Inside.{entries_of, in_order}
-use Rattle.piece_tree.proofs.Sums.{sum_is, sum-split, entries-append, units_in, units-split}
+use Rattle.piece_tree.specs.Searches.{few_breaks, counted, count_of}
+use Rattle.piece_tree.specs.Runs.{name_of, found_in, pieces_in, entries_of, entries_from, HasRunOf, CanFindIn, IsFoundIn}
+use Rattle.piece_tree.specs.Costs.{WithinLookUps}
+use Rattle.piece_tree.proofs.Entries.{pieces_entries, pieces_from, in-append, entries-at}
+use Rattle.piece_tree.proofs.Sums.{units-cons, breaks_few}
 
--- what each turn says of the one that is sought
-abbrev Means : Turn → ℕ → ℕ → ℕ → Type 0
-Means Left place before own = place < before
-Means Stop place before own = (before ≤ place) × (place < before + own)
-Means Right place before own = before + own ≤ place
+abbrev Runs : Type 0
+Runs = List (ℕ × List Piece)
 
-means : (place before own : ℕ) → Means (toward place before own) place before own
-means place before own = elim (cases_lt place before) [
-  | inl low ↦ subst (λ t. Means t place before own) (sym (ap (λ b. cond b Left (cond (ltb (place - before) own) Stop Right)) (lt-ltb place before low))) low
-  | inr high ↦ (let past = ap (λ b. cond b Left (cond (ltb (place - before) own) Stop Right)) (le-ltb place before high) in
-      elim (cases_lt (place - before) own) [
-        | inl here ↦ subst (λ t. Means t place before own) (sym (past ∙ ap (λ b. cond b Stop Right) (lt-ltb (place - before) own here))) (high, omega (arith, high, here))
-        | inr over ↦ subst (λ t. Means t place before own) (sym (past ∙ ap (λ b. cond b Stop Right) (le-ltb (place - before) own over))) (omega (arith, high, over))
-      ])
-]
+-- the pieces before a run, those of it, and those behind it
+sum-at : (f : Piece → ℕ) (us : Runs) (id : ℕ) (x : List Piece) (vs : Runs) → sum_by f (pieces_in (us ++ (id, x) ∷ vs)) ≡ sum_by f (pieces_in us) + (sum_by f x + sum_by f (pieces_in vs))
+sum-at f us id x vs =
+    ap (sum_by f) (in-append us ((id, x) ∷ vs)) ∙ sum_by-append f (pieces_in us) (x ++ pieces_in vs) ∙ ap (λ n. sum_by f (pieces_in us) + n) (sum_by-append f x (pieces_in vs))
 
--- a search by what f counts
-module _ (key : Sought) (f : Piece → ℕ) (place : ℕ)
-    (says : (us : List (ℕ × Piece)) (x : Piece) → piece_turn key (woven.sum_of adding us) x ≡ toward place (sum_by f (in_order us)) (f x)) where
-  abbrev before : List (ℕ × Piece) → ℕ
-  before us = sum_by f (in_order us)
+counted_sum : (sought : Sought) (ps : List Piece) → counted sought (sum_of ps) ≡ count_of sought ps
+counted_sum (Offset offset) ps = refl
+counted_sum (Break number) ps = refl
 
-  heard : (us : List (ℕ × Piece)) (x : Piece) (t : Turn) → searching.Says adding piece_turn key us x t → Means t place (before us) (f x)
-  heard us x t e = subst (λ u. Means u place (before us) (f x)) (sym (says us x) ∙ e) (means place (before us) (f x))
+-- no run is empty, so there are no more runs than pieces
+pub length-from : (run place : ℕ) (ps : List Piece) → length (entries_from run place ps) ≡ length ps
+length-from run place [] = refl
+length-from run place (p ∷ ps) = ap suc (length-from run (suc place) ps)
 
-  -- the search ends where the one that is sought is, or at the last piece, if all have too few
-  ended : (us : List (ℕ × Piece)) (id : ℕ) (x : Piece) (vs : List (ℕ × Piece)) → searching.EndsAt adding piece_turn key us id x vs
-      → (before us ≤ place) × ((place < before us + f x) ⊎ ((vs ≡ []) × (before us + f x ≤ place)))
-  ended us id x vs (inl stop) = let (low, high) = heard us x Stop stop in (low, inl high)
-  ended us id x vs (inr (inl (left, inl none))) = let h = heard us x Left left in absurd (omega (arith, h, ap before none))
-  ended us id x vs (inr (inl (left, inr (ws, (e, is, right))))) =
-      let h = heard us x Left left in let g = heard ws e.1 Right right in absurd (omega (arith, h, g, ap before is, sum-split f ws e.0 e.1 []))
-  ended us id x vs (inr (inr (right, inl none))) = let h = heard us x Right right in (omega (arith, h), inr (none, h))
-  ended us id x vs (inr (inr (right, inr (e, (ws, is, left))))) =
-      let h = heard us x Right right in let g = heard (us ++ (id, x) ∷ []) e.1 Left left in absurd (omega (arith, h, g, sum-split f us id x []))
+fewer_runs : (runs : Runs) → All (λ r. 0 < length r.1) runs → length runs ≤ length (entries_of runs)
+fewer_runs [] full = omega arith
+fewer_runs (r ∷ rs) full =
+    let own = All-head (λ (r : ℕ × List Piece). 0 < length r.1) r rs full in let others = fewer_runs rs (All-tail (λ (r : ℕ × List Piece). 0 < length r.1) r rs full) in
+    omega (arith, own, others, length-append (entries_from r.0 0 r.1) (entries_of rs), length-from r.0 0 r.1)
 
-  pub ended_within : (items us : List (ℕ × Piece)) (id : ℕ) (x : Piece) (vs : List (ℕ × Piece)) → SplitsAt items id us x vs → searching.EndsAt adding piece_turn key us id x vs
-      → place < before items → (before us ≤ place) × (place < before us + f x)
-  ended_within items us id x vs e ends h =
-      let (low, high) = ended us id x vs ends in
-      (low, elim high [ inl here ↦ here | inr (none, past) ↦ absurd (omega (arith, h, past, ap before e, sum-split f us id x vs, ap before none)) ])
+module _ (runs : Runs) (entries : List Entry) (shown : entries_of runs ≡ entries) where
+  pub pieces_shown : pieces_in runs ≡ pieces_of entries
+  pieces_shown = sym (pieces_entries runs) ∙ ap pieces_of shown
 
-by_offset : (offset : ℕ) (us : List (ℕ × Piece)) (x : Piece) → piece_turn (Offset offset) (woven.sum_of adding us) x ≡ toward offset (sum_of (in_order us)).units x.span.units
-by_offset offset us x = ap (λ (s : PieceSum). toward offset s.units x.span.units) (sum_is us)
+  pub entries_few : All few_breaks (pieces_in runs) → All few_breaks (pieces_of entries)
+  entries_few few = subst (All few_breaks) pieces_shown few
 
-by_break : (number : ℕ) (us : List (ℕ × Piece)) (x : Piece) → piece_turn (Break number) (woven.sum_of adding us) x ≡ toward number (sum_of (in_order us)).breaks x.breaks
-by_break number us x = ap (λ (s : PieceSum). toward number s.breaks x.breaks) (sum_is us)
+  pub entries_small : unit_count (pieces_in runs) < 2 ^ 62 → unit_count (pieces_of entries) < 2 ^ 62
+  entries_small small = subst (λ ps. unit_count ps < 2 ^ 62) pieces_shown small
 
-abbrev units_of : Piece → ℕ
-units_of p = p.span.units
+  -- what it takes among runs is within what it may take among pieces
+  pub within_look_ups : (look_ups nodes : ℕ) → All (λ r. 0 < length r.1) runs → 2 ^ nodes ≤ (length runs + 1) ^ (2 * look_ups) → WithinLookUps look_ups (length entries) nodes
+  within_look_ups look_ups nodes full cost =
+      let more : length runs + 1 ≤ length entries + 1 = omega (arith, fewer_runs runs full, ap length shown) in
+      let up = pow-le-pow_left more (2 * look_ups) in omega (arith, cost, up)
 
-abbrev breaks_of : Piece → ℕ
-breaks_of p = p.breaks
+module _ (runs : Runs) (sought : Sought) (at : ℕ × PieceSum) (has : HasRunOf runs sought at) where
+  pub run_found : IsItem runs at.0
+  run_found = (has.earlier, (has.pieces, (has.later, has.place)))
 
-abbrev pub found_at : ℕ × Piece × PieceSum → Found
-found_at f = record { id = f.0; span = f.1.span; breaks = f.1.breaks; before = f.2 }
+  module _ (xs : List Piece) (own : AtItem runs at.0 (λ us x vs. xs ≡ x)) (small : unit_count (pieces_in runs) < 2 ^ 62) where
+    same : has.pieces ≡ xs
+    same = sym (own has.earlier has.pieces has.later has.place)
 
--- what a look-up answers
-module _ (items : List (ℕ × Piece)) (entries : List Entry) (shown : entries_of items ≡ entries) (r : Option (ℕ × Piece × PieceSum)) (f : ℕ × Piece × PieceSum) (some : r ≡ Some f)
-    (found : Found) (is : found ≡ found_at f) where
-  found_there : (us vs : List (ℕ × Piece)) → SplitsAt items f.0 us f.1 vs → f.2 ≡ woven.sum_of adding us → IsFound entries found
-  found_there us vs e s =
-      let there : IsFound (entries_of items) (found_at f)
-      = record { earlier = entries_of us; later = entries_of vs; place = ap entries_of e ∙ entries-append us ((f.0, f.1) ∷ vs); before = s ∙ sum_is us } in
-      subst (λ es. IsFound es found) shown (subst (IsFound (entries_of items)) (sym is) there)
+    units : unit_count (pieces_in runs) ≡ unit_count (pieces_in has.earlier) + (unit_count has.pieces + unit_count (pieces_in has.later))
+    units = ap (λ rs. unit_count (pieces_in rs)) has.place ∙ sum-at (λ (p : Piece). p.span.units) has.earlier at.0 has.pieces has.later
 
-  pub found_offset : (offset : ℕ) → searching.Found adding piece_turn (Offset offset) items r → offset < unit_count (pieces_of entries)
-      → IsFound entries found × (found.before.units ≤ offset) × (offset < found.before.units + found.span.units)
-  found_offset offset searched inside =
-      let (us, (vs, e, s, ends)) = subst (searching.Found adding piece_turn (Offset offset) items) some searched in let total = ap (λ es. unit_count (pieces_of es)) shown in
-      let (low, high) = ended_within (Offset offset) units_of offset (by_offset offset) items us f.0 f.1 vs e ends (omega (arith, total, inside)) in
-      let count = ap (λ (p : PieceSum). p.units) (s ∙ sum_is us) in let before = ap (λ (x : Found). x.before.units) is in let own = ap (λ (x : Found). x.span.units) is in
-      (found_there us vs e s, omega (arith, low, count, before), omega (arith, high, count, before, own))
+    pub can_find : All few_breaks (pieces_in runs) → CanFindIn xs at.1 sought
+    can_find few =
+        let breaks = ap (λ rs. break_count_of (pieces_in rs)) has.place ∙ sum-at (λ (p : Piece). p.breaks) has.earlier at.0 has.pieces has.later in
+        let before = ap (counted sought) has.before ∙ counted_sum sought (pieces_in has.earlier) in
+        let there : CanFindIn has.pieces at.1 sought = record {
+          units = omega (arith, small, units, ap (λ (s : PieceSum). s.units) has.before);
+          breaks = omega (arith, small, breaks, breaks_few (pieces_in runs) few, ap (λ (s : PieceSum). s.breaks) has.before);
+          start = omega (arith, before, has.start);
+          end = omega (arith, before, has.end);
+        } in subst (λ ps. CanFindIn ps at.1 sought) same there
 
-  pub found_line : (n : ℕ) → searching.Found adding piece_turn (Break (n - 1)) items r → 0 < n → n ≤ break_count_of (pieces_of entries) → units_in items < 2 ^ 62
-      → IsFound entries found × (found.before.breaks < n) × (n ≤ found.before.breaks + found.breaks) × (found.before.units + found.span.units < 2 ^ 62)
-  found_line n searched first inside small =
-      let (us, (vs, e, s, ends)) = subst (searching.Found adding piece_turn (Break (n - 1)) items) some searched in let total = ap (λ es. break_count_of (pieces_of es)) shown in
-      let (low, high) = ended_within (Break (n - 1)) breaks_of (n - 1) (by_break (n - 1)) items us f.0 f.1 vs e ends (omega (arith, total, first, inside)) in
-      let count = ap (λ (p : PieceSum). p.breaks) (s ∙ sum_is us) in let before = ap (λ (x : Found). x.before.breaks) is in let own = ap (λ (x : Found). x.breaks) is in
-      let units = ap (λ (p : PieceSum). p.units) (s ∙ sum_is us) in let start = ap (λ (x : Found). x.before.units) is in let length = ap (λ (x : Found). x.span.units) is in (
-        found_there us vs e s,
-        omega (arith, low, count, before, first),
-        omega (arith, high, count, before, own),
-        omega (arith, units, start, length, ap units_in e, units-split us f.0 f.1 vs, small),
-      )
+    module _ (entries : List Entry) (shown : entries_of runs ≡ entries) (found : Found) (is : IsFoundIn at.0 xs at.1 sought found) where
+      pub piece_found : IsFound entries found
+      piece_found =
+          let front = pieces_in has.earlier in
+          let id = name_of at.0 (length is.earlier) in
+          let before : PieceSum = record { units = at.1.units + unit_count is.earlier; breaks = at.1.breaks + break_count_of is.earlier } in
+          let pieces : pieces_of (entries_of has.earlier ++ entries_from at.0 0 is.earlier) ≡ front ++ is.earlier =
+          map-append (λ (e : Entry). e.piece) (entries_of has.earlier) (entries_from at.0 0 is.earlier)
+          ∙ (λ i. pieces_entries has.earlier i ++ pieces_from at.0 0 is.earlier i) in
+          let units_are : before.units ≡ unit_count (front ++ is.earlier) =
+          omega (arith, ap (λ (s : PieceSum). s.units) has.before, sum_by-append (λ (p : Piece). p.span.units) front is.earlier) in
+          let breaks_are : before.breaks ≡ break_count_of (front ++ is.earlier) =
+          omega (arith, ap (λ (s : PieceSum). s.breaks) has.before, sum_by-append (λ (p : Piece). p.breaks) front is.earlier) in
+          let there : IsFound entries (found_in id is.piece before) = record {
+            earlier = entries_of has.earlier ++ entries_from at.0 0 is.earlier;
+            later = entries_from at.0 (suc (length is.earlier)) is.later ++ entries_of has.later;
+            place = sym shown ∙ ap entries_of (has.place ∙ ap (λ x. has.earlier ++ (at.0, x) ∷ has.later) (same ∙ is.place))
+                ∙ entries-at has.earlier at.0 is.earlier is.piece is.later has.later;
+            before = (λ i. record { units = units_are i; breaks = breaks_are i }) ∙ ap sum_of (sym pieces);
+          } in subst (IsFound entries) (sym is.told) there
+
+      pub small_found : found.before.units + found.span.units < 2 ^ 62
+      small_found =
+          let told = ap (λ (f : Found). f.before.units + f.span.units) is.told in
+          let own_units = ap unit_count (same ∙ is.place) ∙ sum_by-append (λ (p : Piece). p.span.units) is.earlier (is.piece ∷ is.later) in
+          omega (arith, told, own_units, units-cons is.piece is.later, units, small, ap (λ (s : PieceSum). s.units) has.before)

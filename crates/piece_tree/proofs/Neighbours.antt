@@ -1,17 +1,17 @@
 -- The pieces on both sides of one that was looked up.
-use Rattle.std.proofs.Common.{◌≡◌, ℕ, ◌+◌, ◌-◌, ◌<◌, ◌^◌, Option, Some, None, List, [], ◌∷◌, ◌++◌, refl, ap, sym, ◌∙◌, append_assoc, arith}
+use Rattle.std.proofs.Common.{◌≡◌, ℕ, ◌+◌, ◌-◌, ◌<◌, ◌≤◌, ◌^◌, Some, None, List, [], ◌∷◌, ◌++◌, refl, ap, sym, ◌∙◌, append_assoc, arith}
 use Rattle.std.specs.List.{All, sum_by}
+use Rattle.std.specs.Option.{option_map, unwrap_or}
 use Rattle.std.proofs.lemmas.List.{map-append}
 use Rattle.std.proofs.lemmas.List.Sums.{sum_by-append}
 use Rattle.piece_tree.specs.declared.piece.Piece.{Piece}
+use Rattle.piece_tree.specs.declared.piece.PieceId.{PieceId}
 use Rattle.piece_tree.specs.declared.piece.Found.{Found}
 use Rattle.piece_tree.specs.declared.piece.PieceSum.{PieceSum}
-use Rattle.piece_tree.specs.Pieces.{Entry, IsAmong, IsFound, AreNeighbours, pieces_of, unit_count, break_count_of, sum_of}
+use Rattle.piece_tree.specs.Pieces.{Entry, IsAmong, IsFound, AreNeighbours, pieces_of, unit_count, break_count_of, sum_of, first_of, last_of}
+use Rattle.piece_tree.specs.Runs.{entry_at, first_named, last_named}
 use Rattle.piece_tree.specs.Searches.{few_breaks}
-use Rattle.rb_arena.specs.RbTree.{IsItem, AtItem, SplitsAt, first_or, last_or}
-use Rattle.piece_tree.specs.Inside.{entry_of, entries_of}
-use Rattle.piece_tree.proofs.Sums.{units-cons, breaks-cons, breaks_few, entries-append}
-use Rattle.piece_tree.proofs.Places.{piece_found, split_entries, named_entry, item_after, before_place, first_none, last_there, last_none}
+use Rattle.piece_tree.proofs.Sums.{units-cons, breaks-cons, breaks_few}
 
 counted : (f : Piece → ℕ) (es fs : List Entry) → sum_by f (pieces_of (es ++ fs)) ≡ sum_by f (pieces_of es) + sum_by f (pieces_of fs)
 counted f es fs = ap (sum_by f) (map-append (λ (e : Entry). e.piece) es fs) ∙ sum_by-append f (pieces_of es) (pieces_of fs)
@@ -29,8 +29,38 @@ sum_push es e =
     let breaks : break_count_of (pieces_of (es ++ e ∷ [])) ≡ break_count_of (pieces_of es) + e.piece.breaks = omega (arith, breaks_with es e []) in
     λ i. record { units = units i; breaks = breaks i }
 
+-- the first and the last of some pieces, by what is told of them
+pub first_none : (es : List Entry) → None ≡ first_named es → es ≡ []
+first_none [] h = refl
+first_none (e ∷ es) h = absurd cc
+
+pub first_there : (es : List Entry) (id : PieceId) (p : Piece) → Some (id, p) ≡ first_named es → (ws : List Entry) × (es ≡ entry_at id p ∷ ws)
+first_there [] id p h = absurd cc
+first_there (e ∷ es) id p h =
+    (es, λ i. let at = unwrap_or {T = PieceId × Piece} (sym h i) (id, p) in entry_at at.0 at.1 ∷ es)
+
+pub last_none : (es : List Entry) → None ≡ last_named es → es ≡ []
+last_none [] h = refl
+last_none (e ∷ []) h = absurd cc
+last_none (e ∷ f ∷ es) h = let none : f ∷ es ≡ [] = last_none (f ∷ es) h in absurd cc
+
+pub last_there : (es : List Entry) (id : PieceId) (p : Piece) → Some (id, p) ≡ last_named es → (ws : List Entry) × (es ≡ ws ++ entry_at id p ∷ [])
+last_there [] id p h = absurd cc
+last_there (e ∷ []) id p h = ([], λ i. let at = unwrap_or {T = PieceId × Piece} (sym h i) (id, p) in entry_at at.0 at.1 ∷ [])
+last_there (e ∷ f ∷ es) id p h = let (ws, is) = last_there (f ∷ es) id p h in (e ∷ ws, ap (λ l. e ∷ l) is)
+
+-- their names and their spans
+pub first_spanned : (es : List Entry) → option_map (λ at. (at.0, at.1.span)) (first_named es) ≡ first_of es
+first_spanned [] = refl
+first_spanned (e ∷ es) = refl
+
+pub last_spanned : (es : List Entry) → option_map (λ at. (at.0, at.1.span)) (last_named es) ≡ last_of es
+last_spanned [] = refl
+last_spanned (e ∷ []) = refl
+last_spanned (e ∷ f ∷ es) = last_spanned (f ∷ es)
+
 module _ (entries : List Entry) (near : Found) (is : IsFound entries near) where
-  abbrev own : Entry
+  abbrev pub own : Entry
   own = record { id = near.id; piece = record { span = near.span; breaks = near.breaks } }
 
   pub among : IsAmong entries near.id
@@ -65,9 +95,13 @@ module _ (entries : List Entry) (near : Found) (is : IsFound entries near) where
   }
 
   -- the piece before this one is counted in what stands before this one
-  pub prev_counted : (e : Entry) (ws : List Entry) → is.earlier ≡ ws ++ e ∷ []
+  prev_counted : (e : Entry) (ws : List Entry) → is.earlier ≡ ws ++ e ∷ []
       → near.before ≡ record { units = unit_count (pieces_of ws) + e.piece.span.units; breaks = break_count_of (pieces_of ws) + e.piece.breaks }
   prev_counted e ws before = is.before ∙ ap (λ es. sum_of (pieces_of es)) before ∙ sum_push ws e
+
+  pub prev_within : (e : Entry) (ws : List Entry) → is.earlier ≡ ws ++ e ∷ [] → (e.piece.span.units ≤ near.before.units) × (e.piece.breaks ≤ near.before.breaks)
+  prev_within e ws before =
+      let counted = prev_counted e ws before in (omega (arith, ap (λ (s : PieceSum). s.units) counted), omega (arith, ap (λ (s : PieceSum). s.breaks) counted))
 
   pub prev_is : (e : Entry) (ws : List Entry) → is.earlier ≡ ws ++ e ∷ []
       → AreNeighbours entries (record {
@@ -94,38 +128,3 @@ module _ (entries : List Entry) (near : Found) (is : IsFound entries near) where
         beside = before;
         before = λ i. record { units = all_units i; breaks = all_breaks i };
       }
-
-  module _ (items : List (ℕ × Piece)) (shown : entries_of items ≡ entries) where
-    pub near_item : IsItem items near.id
-    near_item = named_entry items entries near.id shown among
-
-    -- it is the last or the first where the tree names none beside it
-    pub none_behind : (r : Option ℕ) → r ≡ None → AtItem items near.id (λ us x vs. r ≡ first_or None vs) → is.later ≡ []
-    none_behind r none told =
-        let (us, (vs, e, before, after)) = split_entries items is.earlier is.later near.id (piece_found near) (shown ∙ is.place) in
-        sym after ∙ ap entries_of (first_none vs (sym none ∙ told us (piece_found near) vs e))
-
-    pub none_before : (r : Option ℕ) → r ≡ None → AtItem items near.id (λ us x vs. r ≡ last_or None us) → is.earlier ≡ []
-    none_before r none told =
-        let (us, (vs, e, before, after)) = split_entries items is.earlier is.later near.id (piece_found near) (shown ∙ is.place) in
-        sym before ∙ ap entries_of (last_none us (sym none ∙ told us (piece_found near) vs e))
-
-  module _ (items : List (ℕ × Piece)) (shown : entries_of items ≡ entries) (other : ℕ) (r : Option ℕ) (some : r ≡ Some other) where
-    -- the item before it in the tree
-    pub item_before : AtItem items near.id (λ us x vs. r ≡ last_or None us)
-        → (ws : List (ℕ × Piece)) × ((x : Piece) × ((vs : List (ℕ × Piece)) × SplitsAt items other ws x vs × (is.earlier ≡ entries_of ws ++ entry_of (other, x) ∷ [])))
-    item_before told =
-        let own : ℕ × Piece = (near.id, piece_found near) in
-        let (us, (vs, e, before, after)) = split_entries items is.earlier is.later near.id (piece_found near) (shown ∙ is.place) in
-        let (ws, (x, last)) = last_there us other (sym some ∙ told us (piece_found near) vs e) in
-        let shown_before = sym before ∙ ap entries_of last ∙ entries-append ws ((other, x) ∷ []) in
-        (ws, (x, (own ∷ vs, before_place items us ws (own ∷ vs) other x e last, shown_before)))
-
-    -- the item after it
-    pub item_behind : AtItem items near.id (λ us x vs. r ≡ first_or None vs)
-        → (us : List (ℕ × Piece)) × ((y : Piece) × ((ws : List (ℕ × Piece)) × SplitsAt items other us y ws × (is.later ≡ entry_of (other, y) ∷ entries_of ws)))
-    item_behind told =
-        let own : ℕ × Piece = (near.id, piece_found near) in
-        let (us, (vs, e, before, after)) = split_entries items is.earlier is.later near.id (piece_found near) (shown ∙ is.place) in
-        let (y, (ws, at, split)) = item_after items us near.id (piece_found near) vs other r e some (told us (piece_found near) vs e) in
-        (us ++ own ∷ [], (y, (ws, at, sym after ∙ ap entries_of split)))

@@ -2,7 +2,7 @@
 use Rattle.std.proofs.Common.{add_assoc, add-zero, zero-add, refl, arith}
 use Rattle.rb_rules.specs.Weaving.{Lawful, Sums}
 use Rattle.piece_tree.specs.declared.piece.PieceSum.{PieceSum}
-use Rattle.piece_tree.specs.Searches.{adding, few_breaks, few_breaks_in, is_small}
+use Rattle.piece_tree.specs.Searches.{adding, has_few_breaks, few_breaks_in, is_small}
 
 pub lawful : Lawful adding
 lawful = record {
@@ -22,7 +22,7 @@ lawful = record {
   shift_one = λ a x. refl;
 }
 
-pub sums : Sums adding few_breaks few_breaks_in
+pub sums : Sums adding has_few_breaks few_breaks_in
 sums = record { of_none = omega arith; of_one = λ x h. h; of_join = λ a b h g. omega (arith, h, g) }
 
 pub parts : (a b : PieceSum) → is_small (adding.join a b) → is_small a × is_small b

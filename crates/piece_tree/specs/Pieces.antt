@@ -1,14 +1,17 @@
 -- The pieces of a text, as a list that is cut and inserted into.
-use Rattle.std.specs.Prelude.{ℕ, ◌≡◌, ◌+◌, ◌-◌, ◌<◌, ◌≤◌, ◌==◌, ◌&&◌, Bool, false, Option, Some, None, nat_le, if◌then◌else◌, List, [], ◌∷◌, ◌++◌, map, sum_by}
+use Rattle.std.specs.Prelude.{ℕ, ◌≡◌, ◌≢◌, ◌+◌, ◌-◌, ◌<◌, ◌≤◌, ◌==◌, ◌&&◌, Bool, false, Option, Some, None, nat_le, if◌then◌else◌, List, [], ◌∷◌, ◌++◌, length, map, sum_by}
+use Rattle.std.specs.List.{All}
 use Rattle.chunk_buffers.specs.declared.span.ChunkSpan.{ChunkSpan}
 use Rattle.chunk_buffers.specs.Chunks.{units_at, LiesIn, part_of}
 use Rattle.line_starts.specs.Starts.{break_count}
 use Rattle.piece_tree.specs.declared.piece.Piece.{Piece}
 use Rattle.piece_tree.specs.declared.piece.PieceSum.{PieceSum}
+use Rattle.piece_tree.specs.declared.piece.PieceId.{PieceId}
 use Rattle.piece_tree.specs.declared.piece.Found.{Found}
+use Rattle.piece_tree.specs.declared.tree.Stretch.{Stretch}
 
 pub record Entry : Type 0 where
-  pub id : ℕ
+  pub id : PieceId
   pub piece : Piece
 
 -- what contracts see of a piece tree
@@ -122,24 +125,47 @@ StandsAt entries None offset = offset ≡ unit_count (pieces_of entries)
 StandsAt entries (Some found) offset = HasUnit entries found offset
 
 -- the entry has this name
-pub record IsAmong (entries : List Entry) (id : ℕ) : Type 0 where
+pub record IsAmong (entries : List Entry) (id : PieceId) : Type 0 where
   pub earlier : List Entry
   pub later : List Entry
   pub piece : Piece
   pub place : entries ≡ earlier ++ record { id = id; piece = piece } ∷ later
 
 -- where the entry of that name stands in the list, this holds of those before it and of those behind it
-abbrev pub AtEntry : List Entry → ℕ → (List Entry → List Entry → Type 0) → Type 0
+abbrev pub AtEntry : List Entry → PieceId → (List Entry → List Entry → Type 0) → Type 0
 AtEntry entries id P =
     (earlier later : List Entry) (piece : Piece) → entries ≡ earlier ++ record { id = id; piece = piece } ∷ later → P earlier later
 
 -- the name and the span of the first of these
-abbrev pub first_of : List Entry → Option (ℕ × ChunkSpan)
+abbrev pub first_of : List Entry → Option (PieceId × ChunkSpan)
 first_of [] = None
 first_of (e ∷ entries) = Some (e.id, e.piece.span)
 
 -- the name and the span of the last of these
-abbrev pub last_of : List Entry → Option (ℕ × ChunkSpan)
+abbrev pub last_of : List Entry → Option (PieceId × ChunkSpan)
 last_of [] = None
 last_of (e ∷ []) = Some (e.id, e.piece.span)
 last_of (e ∷ f ∷ entries) = last_of (f ∷ entries)
+
+-- a looked-up piece with its name
+abbrev pub entry_found : Found → Entry
+entry_found found = record { id = found.id; piece = record { span = found.span; breaks = found.breaks } }
+
+-- The pieces that lie in one run with a looked-up one stand side by side, `before` it and `behind` it, and no others lie in that run.
+-- The first of them is told as a look-up tells it, and how many units and pieces they are.
+pub record IsStretch (entries : List Entry) (near : Found) (stretch : Stretch) : Type 0 where
+  pub earlier : List Entry
+  pub before : List Entry
+  pub behind : List Entry
+  pub later : List Entry
+  pub place : IsFound entries near
+  pub place_earlier : place.earlier ≡ earlier ++ before
+  pub place_later : place.later ≡ behind ++ later
+  pub within : List Entry
+  pub all : within ≡ before ++ entry_found near ∷ behind
+  pub one_run : All (λ e. e.id.run ≡ near.id.run) within
+  pub other_runs : All (λ e. e.id.run ≢ near.id.run) (earlier ++ later)
+  pub first : IsFound entries stretch.first
+  pub first_earlier : first.earlier ≡ earlier
+  pub units : stretch.units ≡ unit_count (pieces_of within)
+  pub pieces : stretch.pieces ≡ length within

@@ -1,15 +1,14 @@
 //! Where a splice begins.
-ghost use Rattle.std.specs.Prelude.{◌≡◌, ◌+◌, ◌<◌, ◌≤◌, ◌^◌, [], MatchOption};
+ghost use Rattle.std.specs.Prelude.{◌≡◌, ◌+◌, ◌-◌, ◌<◌, ◌≤◌, ◌^◌, [], MatchOption};
 ghost use Rattle.std.specs.List.{All};
-ghost use Rattle.rb_arena.specs.RbTree.{IsItem, AtItem};
-ghost use Rattle.piece_tree.specs.Pieces.{span_of, unit_count, IsPieceOf, StandsAt};
-ghost use Rattle.piece_tree.specs.Inside.{entries_of, in_order, IsCounted};
-ghost use Rattle.piece_tree.specs.Runs.{IsJoint, IsCut, cut_behind};
+ghost use Rattle.piece_tree.specs.Pieces.{span_of, unit_count, IsAmong, AtEntry, IsPieceOf, StandsAt};
+ghost use Rattle.piece_tree.specs.Runs.{entries_of, pieces_in};
+ghost use Rattle.piece_tree.specs.Splicing.{IsJoint, IsCut, cut_behind};
 
+use crate::beside::{last_piece, piece_before};
 use crate::piece::{Found, Piece, PieceId, PieceSum, goes_on, piece_of};
-use crate::weave::PieceWeave;
+use crate::runs::RunTree;
 use chunk_buffers::Chunks;
-use rb_arena::RbTree;
 
 /// Where a splice begins: in or right behind a piece.
 #[derive(Clone, Copy)]
@@ -25,50 +24,52 @@ pub(crate) struct Cut {
 
 /// Where a splice begins; None where there is no piece.
 pub(crate) fn first_cut(
-    tree: &RbTree<PieceWeave>,
+    runs: &RunTree,
     at: &Option<Found>,
-    offset: u64,
-    deleted: u64,
+    start: u64,
+    gone: u64,
     piece: Option<Piece>,
     chunks: &Chunks,
 ) -> Option<Cut>
-    requires place { StandsAt (entries_of tree.now.items) at.now offset }
-    requires range { offset + deleted ≤ unit_count (in_order tree.now.items) }
-    requires small { unit_count (in_order tree.now.items) < 2 ^ 62 }
-    requires pieces { All (IsPieceOf chunks.now.buffers) (in_order tree.now.items) }
-    ensures { MatchOption result (tree.now.items ≡ [])
-        (IsCut chunks.now.buffers offset (offset + deleted) (span_of piece) tree.now.items) }
+    requires place { StandsAt (entries_of runs.now.runs) at.now start }
+    requires range { start + gone ≤ unit_count (pieces_in runs.now.runs) }
+    requires small { unit_count (pieces_in runs.now.runs) < 2 ^ 62 }
+    requires pieces { All (IsPieceOf chunks.now.buffers) (pieces_in runs.now.runs) }
+    ensures { MatchOption result (pieces_in runs.now.runs ≡ [])
+        (IsCut chunks.now.buffers start (start + gone) (span_of piece)
+        (entries_of runs.now.runs)) }
 {
     let Some(found) = at else {
-        return Some(cut_behind(tree, tree.last()?, tree.sum(), deleted));
+        return Some(cut_behind(last_piece(runs)?, runs.sum(), gone));
     };
-    let own = offset - found.before.units;
+    let own = start - found.before.units;
     if 0 < own {
         return Some(Cut {
             id: found.id,
             left: Some(piece_of(chunks, chunks.part(found.span, 0, own))),
-            end: own + deleted,
+            end: own + gone,
             before: found.before,
         });
     }
-    if let Some(before) = joint(tree, found.id, piece) {
-        return Some(cut_behind(tree, before, found.before, deleted));
+    if let Some(before) = joint(runs, found.id, piece) {
+        return Some(cut_behind(before, found.before, gone));
     }
     Some(Cut {
         id: found.id,
         left: None,
-        end: deleted,
+        end: gone,
         before: found.before,
     })
 }
 
 /// A cut right behind a piece, where that many units go. The sum is that of the pieces up to this one.
-fn cut_behind(tree: &RbTree<PieceWeave>, id: PieceId, sum: PieceSum, deleted: u64) -> Cut
-    requires counted { IsCounted tree.now.items id sum }
+fn cut_behind(at: (PieceId, Piece), sum: PieceSum, deleted: u64) -> Cut
+    requires units { at.1.span.units ≤ sum.units }
+    requires breaks { at.1.breaks ≤ sum.breaks }
     requires few { deleted < 2 ^ 62 }
-    ensures { AtItem tree.now.items id (λ us x vs. result ≡ cut_behind id x sum deleted) }
+    ensures { result ≡ cut_behind at.0 at.1 sum deleted }
 {
-    let piece = tree.get(id);
+    let (id, piece) = at;
     Cut {
         id,
         left: Some(piece),
@@ -81,13 +82,14 @@ fn cut_behind(tree: &RbTree<PieceWeave>, id: PieceId, sum: PieceSum, deleted: u6
 }
 
 /// The piece right before that one, where what comes goes on from it.
-fn joint(tree: &RbTree<PieceWeave>, id: PieceId, piece: Option<Piece>) -> Option<PieceId>
-    requires { IsItem tree.now.items id }
-    ensures { AtItem tree.now.items id (λ us x vs. IsJoint us (span_of piece) result) }
+fn joint(runs: &RunTree, id: PieceId, piece: Option<Piece>) -> Option<(PieceId, Piece)>
+    requires { IsAmong (entries_of runs.now.runs) id }
+    ensures { AtEntry (entries_of runs.now.runs) id (λ earlier later.
+        IsJoint earlier (span_of piece) result) }
 {
     let piece = piece?;
-    let before = tree.prev(id)?;
-    if goes_on(tree.get(before).span, piece.span) {
+    let before = piece_before(runs, id)?;
+    if goes_on(before.1.span, piece.span) {
         Some(before)
     } else {
         None

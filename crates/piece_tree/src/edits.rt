@@ -1,62 +1,76 @@
 //! The changes of a splice: units that go, and a piece that comes.
-//!
-//! A splice walks to the top of the tree once. The pieces that it touches are merged into one first, which has their sum, so that
-//! nothing changes above; then what comes is put in the place of that one.
 ghost use Rattle.std.specs.Prelude.{◌≡◌, None, ◌+◌, ◌<◌, ◌≤◌, ◌^◌, IfSome};
 ghost use Rattle.std.specs.List.{All};
 ghost use Rattle.std.specs.Option.{ForSome, ForNone, option_map};
 ghost use Rattle.piece_tree.specs.Pieces.{listed, span_of, unit_count, spliced, IsPieceOf, IsFound, StandsAt};
-ghost use Rattle.piece_tree.specs.Inside.{entries_of, in_order, found_at};
-ghost use Rattle.piece_tree.specs.Runs.{KeepsBefore};
+ghost use Rattle.piece_tree.specs.Runs.{entries_of, pieces_in, found_in};
+ghost use Rattle.piece_tree.specs.Splicing.{KeepsBefore, CanTake, HasTaken};
 
+use crate::beside::found;
 use crate::cut::first_cut;
+use crate::left::{Left, left_of};
 use crate::piece::{Found, Piece, PieceId, PieceSum};
-use crate::put::{put, put_only};
-use crate::run::{gather, rest_behind};
-use crate::weave::{PieceWeave, found};
+use crate::put::{joined, put, put_only, remove_units};
+use crate::runs::RunTree;
 use chunk_buffers::Chunks;
-use rb_arena::RbTree;
 
 /// Puts a piece, if there is one, in the place of units from the offset on, where the piece of the unit at the offset was looked up.
 /// Tells the first of the pieces that it put, if any.
 pub(crate) fn replace_units(
-    tree: &mut RbTree<PieceWeave>,
+    runs: &mut RunTree,
     at: &Option<Found>,
     offset: u64,
     deleted: u64,
     piece: Option<Piece>,
     chunks: &Chunks,
 ) -> Option<Found>
-    requires place { StandsAt (entries_of tree.old.items) at.now offset }
-    requires range { offset + deleted ≤ unit_count (in_order tree.old.items) }
-    requires small { unit_count (in_order tree.old.items) < 2 ^ 62 }
-    requires room { 1 < tree.old.spare }
+    requires place { StandsAt (entries_of runs.old.runs) at.now offset }
+    requires range { offset + deleted ≤ unit_count (pieces_in runs.old.runs) }
+    requires small { unit_count (pieces_in runs.old.runs) < 2 ^ 62 }
+    requires room { 0 < runs.old.spare }
     requires counted { ForSome piece (IsPieceOf chunks.now.buffers) }
-    requires pieces { All (IsPieceOf chunks.now.buffers) (in_order tree.old.items) }
-    requires fits { unit_count (in_order tree.old.items) + unit_count (listed piece)
+    requires pieces { All (IsPieceOf chunks.now.buffers) (pieces_in runs.old.runs) }
+    requires fits { unit_count (pieces_in runs.old.runs) + unit_count (listed piece)
         < 2 ^ 62 + deleted }
-    ensures spliced { in_order tree.new.items ≡ spliced chunks.now.buffers
-        offset (offset + deleted) (span_of piece) (in_order tree.old.items) }
-    ensures front { KeepsBefore offset tree.old.items tree.new.items }
-    ensures told { IfSome result (IsFound (entries_of tree.new.items)) }
+    ensures spliced { pieces_in runs.new.runs ≡ spliced chunks.now.buffers
+        offset (offset + deleted) (span_of piece) (pieces_in runs.old.runs) }
+    ensures front { KeepsBefore offset (entries_of runs.old.runs) (entries_of runs.new.runs) }
+    ensures told { IfSome result (IsFound (entries_of runs.new.runs)) }
     ensures near { IfSome result (λ found. (found.before.units ≤ offset)
         × (offset ≤ found.before.units + found.span.units)) }
     ensures none { ForNone result (piece ≡ None) }
-    ensures room { tree.old.spare ≤ tree.new.spare + 2 }
+    ensures room { runs.old.spare ≤ runs.new.spare + 1 }
 {
-    let Some(cut) = first_cut(tree, at, offset, deleted, piece, chunks) else {
-        return Some(put_only(tree, piece?));
+    let Some(cut) = first_cut(runs, at, offset, deleted, piece, chunks) else {
+        return Some(put_only(runs, piece?));
     };
-    let run = gather(tree, cut.id, cut.end);
-    let right = rest_behind(tree, &run, cut.end, chunks);
-    let first = put(tree, run.id, cut.left, piece, right, chunks);
+    let left = take_units(runs, cut.id, cut.end, chunks);
+    let with = joined(cut.left, piece, left.rest, chunks);
+    let first = put(runs, cut.id, left.from, with.pieces());
     found_first(first, cut.before)
+}
+
+/// Tells what is left of the pieces of a run from a place on without their first units, and takes out what of these units stands
+/// behind the run.
+fn take_units(runs: &mut RunTree, id: PieceId, units: u64, chunks: &Chunks) -> Left
+    requires can { CanTake chunks.now.buffers runs.old.runs id }
+    requires small { unit_count (pieces_in runs.old.runs) < 2 ^ 62 }
+    ensures taken { HasTaken chunks.now.buffers runs.old.runs runs.new.runs id units result }
+    ensures counted { ForSome result.rest (IsPieceOf chunks.now.buffers) }
+    ensures room { runs.old.spare ≤ runs.new.spare }
+{
+    let pieces = runs.get(id.run);
+    let left = left_of(pieces, id.place as usize, units, chunks);
+    if left.has_any(pieces.len()) {
+        return left;
+    }
+    remove_units(runs, id.run, left.missing, chunks);
+    left
 }
 
 /// The first piece that was put, if any, as a look-up tells it.
 fn found_first(first: Option<(PieceId, Piece)>, before: PieceSum) -> Option<Found>
-    ensures { result ≡ option_map (found_at before) first }
+    ensures { result ≡ option_map (λ at. found_in at.0 at.1 before) first }
 {
-    let (id, piece) = first?;
-    Some(found((id, piece, before)))
+    Some(found(first?, before))
 }

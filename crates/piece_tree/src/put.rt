@@ -1,157 +1,200 @@
-//! Pieces that come in the place of one.
-ghost use Rattle.std.specs.Prelude.{◌≡◌, ◌+◌, ◌<◌, ◌≤◌, ◌^◌, ◌++◌, ◌∷◌, [], Some};
+//! Pieces that come in the place of some of a run.
+ghost use Rattle.std.specs.Prelude.{◌≡◌, ◌+◌, ◌-◌, ◌<◌, ◌≤◌, ◌^◌, ◌∷◌, [], length};
+ghost use Rattle.std.specs.List.{All};
 ghost use Rattle.std.specs.Option.{ForSome};
-ghost use Rattle.rb_arena.specs.RbTree.{AtItem};
+ghost use Rattle.rb_arena.specs.RbTree.{IsItem, AtItem};
 ghost use Rattle.piece_tree.specs.Pieces.{listed, span_of, unit_count, IsPieceOf, IsFound};
 ghost use Rattle.piece_tree.specs.Searches.{few_breaks};
-ghost use Rattle.piece_tree.specs.Inside.{entries_of, in_order, HasRoomAt, HasUnits};
-ghost use Rattle.piece_tree.specs.Runs.{joined, HasBetween, KeepsFront, HeadsRest};
+ghost use Rattle.piece_tree.specs.Runs.{most_pieces, entries_of, pieces_in, IsRun, listed_in};
+ghost use Rattle.piece_tree.specs.Splicing.{joined, first_put, CanPut, HasPut, HasJoined, HasPiecesBehind, LosesBehind, CanKeep, HasKept};
 
-use crate::piece::{Found, Piece, PieceId, PieceSum, goes_on, piece_of, prolonged, rest_of};
-use crate::weave::{PieceWeave, found};
+use crate::beside::found;
+use crate::left::{Left, left_of};
+use crate::piece::{Found, Piece, PieceId, PieceSum, goes_on, piece_of, prolonged};
+use crate::run::{MOST_PIECES, Run};
+use crate::runs::RunTree;
 use chunk_buffers::Chunks;
-use rb_arena::RbTree;
+use raw_arena::NodeId;
 
-/// Puts what stays on both sides and the piece between them in the place of a piece, and tells the first piece that it put, if any.
-/// Where what comes goes on from what stays before it, the two are one piece.
-pub(crate) fn put(
-    tree: &mut RbTree<PieceWeave>,
-    id: PieceId,
+/// A run of no more pieces is joined with the one behind it, where that is as small.
+const FEW_PIECES: usize = MOST_PIECES / 4;
+
+/// What stays on both sides and the piece between them. Where the piece goes on from what stays before it, the two are one piece.
+pub(crate) fn joined(
     left: Option<Piece>,
     piece: Option<Piece>,
     right: Option<Piece>,
     chunks: &Chunks,
-) -> Option<(PieceId, Piece)>
-    requires left { ForSome left (λ p. HasUnits tree.old.items id p.span.units) }
-    requires fits { HasRoomAt tree.old.items id
-        (unit_count (listed left) + unit_count (listed piece) + unit_count (listed right)) }
-    requires small { unit_count (in_order tree.old.items) < 2 ^ 62 }
-    requires room { 1 < tree.old.spare }
+) -> Run
     requires counted_left { ForSome left (IsPieceOf chunks.now.buffers) }
     requires counted { ForSome piece (IsPieceOf chunks.now.buffers) }
     requires counted_right { ForSome right (IsPieceOf chunks.now.buffers) }
-    ensures items { AtItem tree.old.items id (λ us x vs.
-        HasBetween us (joined chunks.now.buffers left (span_of piece) right) vs tree.new.items) }
-    ensures front { AtItem tree.old.items id (λ us x vs. KeepsFront us tree.new.items) }
-    ensures first { AtItem tree.old.items id (λ us x vs.
-        HeadsRest us (joined chunks.now.buffers left (span_of piece) right) result tree.new.items) }
-    ensures room { tree.old.spare ≤ tree.new.spare + 2 }
+    ensures run { IsRun result }
+    ensures pieces { listed_in result ≡ joined chunks.now.buffers left (span_of piece) right }
+    ensures few { length (listed_in result) ≤ 3 }
 {
-    let Some(own) = left else {
-        return put_two(tree, id, piece, right);
-    };
-    let Some(piece) = piece else {
-        return put_two(tree, id, left, right);
-    };
-    if goes_on(own.span, piece.span) {
-        let whole = piece_of(chunks, prolonged(own.span, piece.span));
-        return put_two(tree, id, Some(whole), right);
+    let mut all = Run::new();
+    match (left, piece) {
+        (Some(own), Some(piece)) if goes_on(own.span, piece.span) => {
+            let whole = piece_of(chunks, prolonged(own.span, piece.span));
+            all.push_some(Some(whole));
+        }
+        _ => {
+            all.push_some(left);
+            all.push_some(piece);
+        }
     }
-    let Some(right) = right else {
-        return put_two(tree, id, left, Some(piece));
-    };
-    Some(put_three(tree, id, own, piece, right))
+    all.push_some(right);
+    all
 }
 
-/// Puts three pieces in the place of one, which has the units of the first and more, and tells the first. The sum changes with the
-/// last two alone.
-fn put_three(
-    tree: &mut RbTree<PieceWeave>,
+/// Puts pieces in the place of those of a run from one place to another, and tells the first of them, if any. A run that gets too
+/// long is split behind the place, so that the pieces in front keep their names.
+pub(crate) fn put(
+    runs: &mut RunTree,
     id: PieceId,
-    first: Piece,
-    second: Piece,
-    third: Piece,
-) -> (PieceId, Piece)
-    requires first { HasUnits tree.old.items id first.span.units }
-    requires fits { HasRoomAt tree.old.items id
-        (first.span.units + second.span.units + third.span.units) }
-    requires small { unit_count (in_order tree.old.items) < 2 ^ 62 }
-    requires room { 1 < tree.old.spare }
-    requires few_first { few_breaks first }
-    requires few_second { few_breaks second }
-    requires few_third { few_breaks third }
-    ensures items { AtItem tree.old.items id (λ us x vs.
-        HasBetween us (first ∷ second ∷ third ∷ []) vs tree.new.items) }
-    ensures front { AtItem tree.old.items id (λ us x vs. KeepsFront us tree.new.items) }
-    ensures first { AtItem tree.old.items id (λ us x vs.
-        HeadsRest us (first ∷ []) (Some result) tree.new.items) }
-    ensures room { tree.old.spare ≤ tree.new.spare + 2 }
-{
-    let rest = rest_of(tree.get(id), first);
-    let other = tree.set_and_insert_after(id, first, rest);
-    put_two(tree, other, Some(second), Some(third));
-    (id, first)
-}
-
-/// Puts up to two pieces in the place of one, and tells the first that it put, if any.
-fn put_two(
-    tree: &mut RbTree<PieceWeave>,
-    id: PieceId,
-    first: Option<Piece>,
-    second: Option<Piece>,
+    to: usize,
+    with: &[Piece],
 ) -> Option<(PieceId, Piece)>
-    requires fits { HasRoomAt tree.old.items id
-        (unit_count (listed first) + unit_count (listed second)) }
-    requires room { 0 < tree.old.spare }
-    requires few_first { ForSome first few_breaks }
-    requires few_second { ForSome second few_breaks }
-    ensures items { AtItem tree.old.items id (λ us x vs.
-        HasBetween us (listed first ++ listed second) vs tree.new.items) }
-    ensures front { AtItem tree.old.items id (λ us x vs. KeepsFront us tree.new.items) }
-    ensures first { AtItem tree.old.items id (λ us x vs.
-        HeadsRest us (listed first ++ listed second) result tree.new.items) }
-    ensures room { tree.old.spare ≤ tree.new.spare + 1 }
+    requires can { CanPut runs.old.runs id to with.now }
+    requires few { length with.now ≤ 3 }
+    requires counted { All few_breaks with.now }
+    requires room { 0 < runs.old.spare }
+    ensures put { HasPut runs.old.runs runs.new.runs id to with.now result }
+    ensures room { runs.old.spare ≤ runs.new.spare + 1 }
 {
-    let Some(one) = first else {
-        return put_one(tree, id, second);
-    };
-    let Some(other) = second else {
-        return put_one(tree, id, first);
-    };
-    // By what this piece gives up, the two fit.
-    let _own = tree.get(id);
-    tree.set_and_insert_after(id, one, other);
-    Some((id, one))
-}
-
-/// Puts a piece in the place of one, or nothing, and tells the piece that it put.
-fn put_one(
-    tree: &mut RbTree<PieceWeave>,
-    id: PieceId,
-    piece: Option<Piece>,
-) -> Option<(PieceId, Piece)>
-    requires fits { HasRoomAt tree.old.items id (unit_count (listed piece)) }
-    requires few { ForSome piece few_breaks }
-    ensures items { AtItem tree.old.items id (λ us x vs.
-        HasBetween us (listed piece) vs tree.new.items) }
-    ensures front { AtItem tree.old.items id (λ us x vs. KeepsFront us tree.new.items) }
-    ensures first { AtItem tree.old.items id (λ us x vs.
-        HeadsRest us (listed piece) result tree.new.items) }
-    ensures room { tree.old.spare ≤ tree.new.spare }
-{
-    // By what this piece gives up, the new one fits.
-    let _own = tree.get(id);
-    let Some(piece) = piece else {
-        tree.remove(id);
+    let place = id.place as usize;
+    let count = runs.get(id.run).len();
+    let all = place + with.len() + (count - to);
+    if all == 0 {
+        runs.remove(id.run);
         return None;
-    };
-    tree.set(id, piece);
-    Some((id, piece))
+    }
+    if MOST_PIECES < all {
+        return put_and_split(runs, id, to, with);
+    }
+    runs.replace_in(id.run, place, to, with);
+    join_next(runs, id.run);
+    first_put(id, with)
 }
 
-/// Puts a piece into a tree with none, and tells it.
-pub(crate) fn put_only(tree: &mut RbTree<PieceWeave>, piece: Piece) -> Found
-    requires empty { tree.old.items ≡ [] }
-    requires room { 0 < tree.old.spare }
+/// The same where the run gets too long: what stands behind the place, and what comes where that does not fit either, goes into a
+/// new run.
+fn put_and_split(
+    runs: &mut RunTree,
+    id: PieceId,
+    to: usize,
+    with: &[Piece],
+) -> Option<(PieceId, Piece)>
+    requires can { CanPut runs.old.runs id to with.now }
+    requires few { length with.now ≤ 3 }
+    requires counted { All few_breaks with.now }
+    requires long { AtItem runs.old.runs id.run (λ us x vs.
+        most_pieces < id.place + length with.now + (length x - to)) }
+    requires room { 0 < runs.old.spare }
+    ensures put { HasPut runs.old.runs runs.new.runs id to with.now result }
+    ensures room { runs.old.spare ≤ runs.new.spare + 1 }
+{
+    let place = id.place as usize;
+    let count = runs.get(id.run).len();
+    let behind = Run::of(&runs.get(id.run)[to..]);
+    if place + with.len() <= MOST_PIECES {
+        runs.replace_in(id.run, place, count, with);
+        runs.insert_after(id.run, behind.pieces());
+        return first_put(id, with);
+    }
+    let mut more = Run::of(with);
+    more.replace(with.len(), with.len(), behind.pieces());
+    runs.replace_in(id.run, place, count, &[]);
+    let other = runs.insert_after(id.run, more.pieces());
+    first_put(
+        PieceId {
+            run: other,
+            place: 0,
+        },
+        with,
+    )
+}
+
+/// The first of the pieces that were put at a place.
+fn first_put(id: PieceId, with: &[Piece]) -> Option<(PieceId, Piece)>
+    ensures { result ≡ first_put id with.now }
+{
+    Some((id, *with.first()?))
+}
+
+/// Joins a run with the one right behind it, where both are small.
+fn join_next(runs: &mut RunTree, id: NodeId)
+    requires named { IsItem runs.old.runs id }
+    requires small { unit_count (pieces_in runs.old.runs) < 2 ^ 62 }
+    ensures joined { HasJoined runs.old.runs runs.new.runs id }
+    ensures room { runs.old.spare ≤ runs.new.spare }
+{
+    let end = runs.get(id).len();
+    if FEW_PIECES < end {
+        return;
+    }
+    let Some(next) = runs.next(id) else {
+        return;
+    };
+    let more = Run::of(runs.get(next));
+    if more.pieces().len() <= FEW_PIECES {
+        runs.remove(next);
+        runs.replace_in(id, end, end, more.pieces());
+    }
+}
+
+/// Takes that many units out that stand right after a run. Empty pieces before the units that stay go too.
+pub(crate) fn remove_units(runs: &mut RunTree, after: NodeId, units: u64, chunks: &Chunks)
+    requires pieces { HasPiecesBehind chunks.now.buffers runs.old.runs after }
+    requires small { unit_count (pieces_in runs.old.runs) < 2 ^ 62 }
+    ensures left { AtItem runs.old.runs after (λ us x vs.
+        LosesBehind chunks.now.buffers units after us x vs runs.new.runs) }
+    ensures room { runs.old.spare ≤ runs.new.spare }
+{
+    let mut missing = units;
+    while let Some(id) = runs.next(after) {
+        let pieces = runs.get(id);
+        let left = left_of(pieces, 0, missing, chunks);
+        if left.has_any(pieces.len()) {
+            keep_left(runs, id, &left);
+            return;
+        }
+        missing = left.missing;
+        runs.remove(id);
+    }
+}
+
+/// Puts what is left of the pieces of a run in their place. That is something.
+fn keep_left(runs: &mut RunTree, id: NodeId, left: &Left)
+    requires can { CanKeep runs.old.runs id left.now }
+    requires counted { ForSome left.now.rest few_breaks }
+    requires small { unit_count (pieces_in runs.old.runs) < 2 ^ 62 }
+    ensures kept { HasKept runs.old.runs runs.new.runs id left.now }
+    ensures spare { runs.new.spare ≡ runs.old.spare }
+{
+    if left.from == 0 {
+        return;
+    }
+    let mut with = Run::new();
+    with.push_some(left.rest);
+    runs.replace_in(id, 0, left.from, with.pieces());
+}
+
+/// Puts a piece into a text with none, and tells it.
+pub(crate) fn put_only(runs: &mut RunTree, piece: Piece) -> Found
+    requires empty { pieces_in runs.old.runs ≡ [] }
+    requires room { 0 < runs.old.spare }
     requires few { few_breaks piece }
-    ensures items { tree.new.items ≡ (result.id, piece) ∷ [] }
-    ensures told { IsFound (entries_of tree.new.items) result }
+    ensures told { IsFound (entries_of runs.new.runs) result }
+    ensures items { pieces_in runs.new.runs ≡ piece ∷ [] }
     ensures first { result.before.units ≡ 0 }
-    ensures room { tree.old.spare ≤ tree.new.spare + 1 }
+    ensures room { runs.old.spare ≤ runs.new.spare + 1 }
 {
     let none = PieceSum {
         units: 0,
         breaks: 0,
     };
-    found((tree.insert_first(piece), piece, none))
+    let run = runs.insert_first(&[piece]);
+    found((PieceId { run, place: 0 }, piece), none)
 }

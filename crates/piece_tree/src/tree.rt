@@ -1,32 +1,32 @@
 //! The tree of pieces, with look-ups by units and by breaks.
 
-ghost use Rattle.std.specs.Prelude.{◌≡◌, ◌+◌, ◌-◌, ◌<◌, ◌≤◌, ◌^◌, ◌++◌, [], length, map, vec_len, vec_capacity, None, MatchOption, IfSome, OnOk, OnErr};
+ghost use Rattle.std.specs.Prelude.{◌≡◌, ◌+◌, ◌-◌, ◌<◌, ◌≤◌, ◌^◌, ◌++◌, [], length, map, vec_len, vec_capacity, None, MatchOption, IfSome, IsTrue, OnOk, OnErr};
 ghost use Rattle.std.specs.List.{All};
-ghost use Rattle.std.specs.Option.{ForSome, ForNone};
-ghost use Rattle.rb_arena.specs.RbTree.{IsItem};
-ghost use Rattle.piece_tree.specs.Inside.{TellsSpan};
-ghost use Rattle.piece_tree.specs.Pieces.{pieces_of, unit_count, break_count_of, listed, span_of, IsPieceOf, spliced, IsFound, AreNeighbours, IsAmong, AtEntry, StandsAt, first_of, last_of};
+ghost use Rattle.std.specs.Option.{ForSome, ForNone, option_map};
+ghost use Rattle.piece_tree.specs.Pieces.{pieces_of, unit_count, break_count_of, listed, span_of, IsPieceOf, spliced, IsFound, IsStretch, AreNeighbours, IsAmong, AtEntry, StandsAt, first_of, last_of};
+ghost use Rattle.rb_arena.specs.Items.{BeginsWith};
 ghost use Rattle.piece_tree.specs.Costs.{WithinLookUps};
+ghost use Rattle.piece_tree.specs.Searches.{number_of, count_of, HasNumber};
 
 mod walking;
 
+use crate::beside::{found, last_piece, piece_after, piece_before};
 use crate::edits::replace_units;
+use crate::find::find_in;
 use crate::piece::{Found, Piece, PieceId, PieceSum};
-use crate::weave::{PieceWeave, Sought, found};
+use crate::run::sum_of;
+use crate::runs::RunTree;
+use crate::weave::Sought;
 use chunk_buffers::{ChunkSpan, Chunks};
-use rb_arena::RbTree;
 use std::alloc::{AllocError, Global};
 use std::marker::Model;
 use steps::Steps;
 pub use walking::PieceWalk;
 
-/// How many pieces a splice may add: what goes on past one that it cuts, and one that is new.
-const PIECES_A_SPLICE: u64 = 2;
-
 /// The pieces of a text. Contracts see their list.
 #[derive(Drop)]
 pub struct PieceTree {
-    tree: RbTree<PieceWeave>,
+    runs: RunTree,
     /// What all pieces have together.
     whole: PieceSum,
     /// For how many splices there is room.
@@ -35,22 +35,32 @@ pub struct PieceTree {
 
 impl Model for PieceTree {
     ghost use Rattle.piece_tree.specs.Pieces.{Pieces};
-    ghost use Rattle.piece_tree.specs.Inside.{entries_of, in_order, IsTree};
+    ghost use Rattle.piece_tree.specs.Runs.{entries_of, pieces_in, IsTree};
 
     ghost Value = { Pieces };
 
-    ghost view = { λ t. record { entries = entries_of t.tree.items; spare = t.spare } };
+    ghost view = { λ t. record { entries = entries_of t.runs.runs; spare = t.spare } };
 
-    ghost invariant = { λ t. IsTree (in_order t.tree.items) t.whole t.tree.spare t.spare };
+    ghost invariant = { λ t. IsTree (pieces_in t.runs.runs) t.whole t.runs.spare t.spare };
 }
 
-/// A name, if there is one, with the span of its piece.
-fn with_span(tree: &RbTree<PieceWeave>, id: Option<PieceId>) -> Option<(PieceId, ChunkSpan)>
-    requires { ForSome id (IsItem tree.now.items) }
-    ensures { TellsSpan tree.now.items id result }
+/// Pieces that lie side by side in one run.
+#[derive(Clone, Copy)]
+pub struct Stretch {
+    /// The first of them.
+    pub first: Found,
+    /// How many units they have.
+    pub units: u64,
+    /// How many they are.
+    pub pieces: usize,
+}
+
+/// A piece's name and its span.
+fn with_span(at: Option<(PieceId, Piece)>) -> Option<(PieceId, ChunkSpan)>
+    ensures { result ≡ option_map (λ at. (at.0, at.1.span)) at }
 {
-    let id = id?;
-    Some((id, tree.get(id).span))
+    let (id, piece) = at?;
+    Some((id, piece.span))
 }
 
 impl PieceTree {
@@ -59,7 +69,7 @@ impl PieceTree {
         ensures spare { result.spare ≡ 0 }
     {
         PieceTree {
-            tree: RbTree::new(alloc),
+            runs: RunTree::new(alloc),
             whole: PieceSum {
                 units: 0,
                 breaks: 0,
@@ -78,10 +88,16 @@ impl PieceTree {
         if edits <= self.spare {
             return Ok(());
         }
-        let pieces = edits.checked_mul(PIECES_A_SPLICE).ok_or(AllocError)?;
-        self.tree.reserve(pieces)?;
+        self.runs.reserve(edits)?;
         self.spare = edits;
         Ok(())
+    }
+
+    /// Whether there is room for a splice.
+    pub fn has_room(&self) -> bool
+        ensures { IsTrue result → 0 < self.now.spare }
+    {
+        0 < self.spare
     }
 
     /// How many units the pieces have. It reads no node.
@@ -108,10 +124,7 @@ impl PieceTree {
         ensures end { offset < result.before.units + result.span.units }
         ensures cost { WithinLookUps 1 (length self.now.entries) (steps.new - steps.old) }
     {
-        let Some(at) = self.tree.descend(Sought::Offset(offset), steps) else {
-            unreachable!();
-        };
-        found(at)
+        self.look_up(Sought::Offset(offset), steps)
     }
 
     /// The piece that has the `n`-th break. Breaks count from 1. Each node that is visited is a step.
@@ -124,10 +137,20 @@ impl PieceTree {
         ensures small { result.before.units + result.span.units < 2 ^ 62 }
         ensures cost { WithinLookUps 1 (length self.now.entries) (steps.new - steps.old) }
     {
-        let Some(at) = self.tree.descend(Sought::Break(n - 1), steps) else {
-            unreachable!();
-        };
-        found(at)
+        self.look_up(Sought::Break(n - 1), steps)
+    }
+
+    /// The piece that has what is sought. Each node that is visited is a step; in the run that it ends at, at most 16 pieces are read.
+    fn look_up<L>(&self, sought: Sought, steps: &mut Steps<L>) -> Found
+        requires { number_of sought < count_of sought (pieces_of self.now.entries) }
+        ensures piece { IsFound self.now.entries result }
+        ensures has { HasNumber sought result }
+        ensures small { result.before.units + result.span.units < 2 ^ 62 }
+        ensures cost { WithinLookUps 1 (length self.now.entries) (steps.new - steps.old) }
+    {
+        let (run, before) = self.runs.find(sought, steps);
+        let pieces = self.runs.get(run);
+        find_in(run, pieces, before, sought, &mut Steps::new())
     }
 
     /// The piece after the one of this name.
@@ -135,14 +158,14 @@ impl PieceTree {
         requires { IsAmong self.now.entries id }
         ensures { AtEntry self.now.entries id (λ earlier later. result ≡ first_of later) }
     {
-        with_span(&self.tree, self.tree.next(id))
+        with_span(piece_after(&self.runs, id))
     }
 
     /// The last piece; None where there is none.
     pub fn last(&self) -> Option<(PieceId, ChunkSpan)>
         ensures { result ≡ last_of self.now.entries }
     {
-        with_span(&self.tree, self.tree.last())
+        with_span(last_piece(&self.runs))
     }
 
     /// The piece before the one of this name.
@@ -150,7 +173,7 @@ impl PieceTree {
         requires { IsAmong self.now.entries id }
         ensures { AtEntry self.now.entries id (λ earlier later. result ≡ last_of earlier) }
     {
-        with_span(&self.tree, self.tree.prev(id))
+        with_span(piece_before(&self.runs, id))
     }
 
     /// The piece after a looked-up one, as a look-up tells it. It makes no search.
@@ -159,12 +182,12 @@ impl PieceTree {
         ensures { (is : IsFound self.now.entries near.now)
             → MatchOption result (is.later ≡ []) (AreNeighbours self.now.entries near.now) }
     {
-        let next = self.tree.next(near.id)?;
+        let next = piece_after(&self.runs, near.id)?;
         let before = PieceSum {
             units: near.before.units + near.span.units as u64,
             breaks: near.before.breaks + near.breaks as u64,
         };
-        Some(found((next, self.tree.get(next), before)))
+        Some(found(next, before))
     }
 
     /// The piece before a looked-up one, as a look-up tells it. It makes no search.
@@ -173,13 +196,34 @@ impl PieceTree {
         ensures { (is : IsFound self.now.entries near.now)
             → MatchOption result (is.earlier ≡ []) (λ prev. AreNeighbours self.now.entries prev near.now) }
     {
-        let prev = self.tree.prev(near.id)?;
-        let piece = self.tree.get(prev);
+        let prev = piece_before(&self.runs, near.id)?;
         let before = PieceSum {
-            units: near.before.units - piece.span.units as u64,
-            breaks: near.before.breaks - piece.breaks as u64,
+            units: near.before.units - prev.1.span.units as u64,
+            breaks: near.before.breaks - prev.1.breaks as u64,
         };
-        Some(found((prev, piece, before)))
+        Some(found(prev, before))
+    }
+
+    /// The pieces that lie in one run with a looked-up one. It makes no search.
+    pub fn stretch_of(&self, near: &Found) -> Stretch
+        requires { IsFound self.now.entries near.now }
+        ensures { IsStretch self.now.entries near.now result }
+    {
+        let pieces = self.runs.get(near.id.run);
+        let earlier = sum_of(&pieces[..near.id.place as usize]);
+        let before = PieceSum {
+            units: near.before.units - earlier.units,
+            breaks: near.before.breaks - earlier.breaks,
+        };
+        let id = PieceId {
+            run: near.id.run,
+            place: 0,
+        };
+        Stretch {
+            first: found((id, pieces[0]), before),
+            units: sum_of(pieces).units,
+            pieces: pieces.len(),
+        }
     }
 
     /// Puts the piece in the place of `deleted` units from the offset on, where the piece that has the unit at the offset was looked
@@ -211,33 +255,47 @@ impl PieceTree {
         ensures none { ForNone result (piece ≡ None) }
         ensures spare { self.new.spare + 1 ≡ self.old.spare }
     {
-        let first = replace_units(&mut self.tree, &at, offset, deleted, piece, chunks);
-        self.whole = self.tree.sum();
+        let first = replace_units(&mut self.runs, &at, offset, deleted, piece, chunks);
+        self.whole = self.runs.sum();
         self.spare -= 1;
         first
     }
 
     /// Appends the spans of the pieces in their order. An error leaves `out` as it was.
-    #[tactic(auto, using(crate::proofs::Places::values_are))]
     pub fn spans(&self, out: &mut Vec<ChunkSpan>) -> Result<(), AllocError>
         ensures ok { OnOk result (out.new.items
             ≡ out.old.items ++ map (λ p. p.span) (pieces_of self.now.entries)) }
         ensures err { OnErr result (out.new.items ≡ out.old.items) }
     {
-        let mut pieces = Vec::new(*out.allocator());
-        self.tree.push_items(&mut pieces)?;
-        out.reserve(pieces.len())?;
-        push_spans(&pieces, out);
+        let before = out.len();
+        if self.push_spans(out).is_err() {
+            out.truncate(before);
+            return Err(AllocError);
+        }
+        Ok(())
+    }
+
+    // Appends the spans of the pieces; after an error some of them.
+    fn push_spans(&self, out: &mut Vec<ChunkSpan>) -> Result<(), AllocError>
+        ensures ok { OnOk result (out.new.items
+            ≡ out.old.items ++ map (λ p. p.span) (pieces_of self.now.entries)) }
+        ensures err { OnErr result (BeginsWith out.old.items out.new.items) }
+    {
+        let mut walk = self.runs.walk_from(self.runs.first());
+        while let Some((_, pieces)) = walk.next(&mut Steps::new()) {
+            push_all(pieces, out)?;
+        }
         Ok(())
     }
 }
 
-/// Appends the spans of the pieces, for which there is room.
-fn push_spans(pieces: &[Piece], out: &mut Vec<ChunkSpan>)
-    requires { vec_len out.old + length pieces.now ≤ vec_capacity out.old }
-    ensures { out.new.items ≡ out.old.items ++ map (λ p. p.span) pieces.now }
+// Appends the spans of some pieces; after an error some of them.
+fn push_all(pieces: &[Piece], out: &mut Vec<ChunkSpan>) -> Result<(), AllocError>
+    ensures ok { OnOk result (out.new.items ≡ out.old.items ++ map (λ p. p.span) pieces.now) }
+    ensures err { OnErr result (BeginsWith out.old.items out.new.items) }
 {
     for piece in pieces {
-        out.push_reserved(piece.span);
+        out.push(piece.span)?;
     }
+    Ok(())
 }

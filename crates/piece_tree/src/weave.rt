@@ -1,8 +1,9 @@
-//! What a tree keeps of its pieces, and how it is searched.
+//! What a tree keeps of its runs, and how it is searched.
 ghost use Rattle.std.specs.Prelude.{◌≡◌, ⊤, Some, refl};
 ghost use Rattle.piece_tree.specs.Searches.{toward};
 
-use crate::piece::{Found, Piece, PieceId, PieceSum};
+use crate::piece::PieceSum;
+use raw_arena::NodeId;
 use rb_rules::{Turn, Weave};
 
 /// What a search looks for: the one with that many before it.
@@ -14,8 +15,15 @@ pub enum Sought {
     Break(u64),
 }
 
-/// Pieces, whose units and breaks add up.
-pub struct PieceWeave;
+/// A run as the tree keeps it: where its pieces are stored, and what they have together.
+#[derive(Clone, Copy)]
+pub struct StoredRun {
+    pub at: NodeId,
+    pub sum: PieceSum,
+}
+
+/// Runs, whose units and breaks add up.
+pub struct RunWeave;
 
 /// Where a search for the one with `place` before it goes from `own` ones with `before` before them.
 fn toward(place: u64, before: u64, own: u64) -> Turn
@@ -30,11 +38,11 @@ fn toward(place: u64, before: u64, own: u64) -> Turn
     }
 }
 
-impl Weave for PieceWeave {
-    ghost use Rattle.piece_tree.specs.Searches.{adding, piece_turn, few_breaks, few_breaks_in, is_small};
+impl Weave for RunWeave {
+    ghost use Rattle.piece_tree.specs.Searches.{adding, run_turn, has_few_breaks, few_breaks_in, is_small};
     ghost use Rattle.piece_tree.specs.Adding.{lawful, sums, parts, thins};
 
-    type Item = Piece;
+    type Item = StoredRun;
 
     type Sum = PieceSum;
 
@@ -44,7 +52,7 @@ impl Weave for PieceWeave {
 
     ghost weaving = { adding };
 
-    ghost is_item = { few_breaks };
+    ghost is_item = { has_few_breaks };
 
     ghost is_value = { is_small };
 
@@ -56,7 +64,7 @@ impl Weave for PieceWeave {
 
     ghost widened = { λ _ _. Some tt };
 
-    ghost turn = { piece_turn };
+    ghost turn = { run_turn };
 
     fn none() -> PieceSum {
         PieceSum {
@@ -65,11 +73,8 @@ impl Weave for PieceWeave {
         }
     }
 
-    fn one(item: Piece) -> PieceSum {
-        PieceSum {
-            units: item.span.units as u64,
-            breaks: item.breaks as u64,
-        }
+    fn one(item: StoredRun) -> PieceSum {
+        item.sum
     }
 
     fn join(first: PieceSum, second: PieceSum) -> PieceSum {
@@ -83,14 +88,6 @@ impl Weave for PieceWeave {
         first.units == second.units && first.breaks == second.breaks
     }
 
-    #[tactic(auto, unfolding(rb_rules::specs::Weaving::CanExchange))]
-    fn exchanged(whole: PieceSum, old: PieceSum, new: PieceSum) -> Option<PieceSum> {
-        Some(PieceSum {
-            units: whole.units - old.units + new.units,
-            breaks: whole.breaks - old.breaks + new.breaks,
-        })
-    }
-
     fn still() {}
 
     fn only_shift() -> Option<()> {
@@ -101,7 +98,7 @@ impl Weave for PieceWeave {
 
     fn minus(whole: (), part: ()) {}
 
-    fn shift(by: (), item: Piece) -> Piece {
+    fn shift(by: (), item: StoredRun) -> StoredRun {
         item
     }
 
@@ -113,10 +110,10 @@ impl Weave for PieceWeave {
         Some(())
     }
 
-    fn turn_at(key: Sought, before: PieceSum, item: Piece) -> Turn {
+    fn turn_at(key: Sought, before: PieceSum, item: StoredRun) -> Turn {
         match key {
-            Sought::Offset(offset) => toward(offset, before.units, item.span.units as u64),
-            Sought::Break(number) => toward(number, before.breaks, item.breaks as u64),
+            Sought::Offset(offset) => toward(offset, before.units, item.sum.units),
+            Sought::Break(number) => toward(number, before.breaks, item.sum.breaks),
         }
     }
 
@@ -137,17 +134,4 @@ impl Weave for PieceWeave {
     ghost parts = { parts };
 
     ghost thins = { thins };
-}
-
-/// A piece as a look-up tells it, with its name and what the pieces before it have.
-pub(crate) fn found(at: (PieceId, Piece, PieceSum)) -> Found
-    ensures { result ≡ record { id = at.0; span = at.1.span; breaks = at.1.breaks; before = at.2 } }
-{
-    let (id, piece, before) = at;
-    Found {
-        id,
-        span: piece.span,
-        breaks: piece.breaks,
-        before,
-    }
 }

@@ -35,11 +35,6 @@ module _ {D : Type 0} where
   few_steps (on s true i d x k) = omega arith
   few_steps (on s false i d x k) = omega arith
 
-  some_steps : (k : Hole D) (at : ℕ × Side) → Some at ≡ place_of k → steps_left k ≤ 0 → ⊥
-  some_steps top at e le = none-some at (sym e)
-  some_steps (on s true i d x k) at e le = omega (arith, le)
-  some_steps (on s false i d x k) at e le = omega (arith, le)
-
   pub red_fork : (t : Tree D) (i : ℕ) → red_name t ≡ Some i → (d : D) × ((x : Tree D) × (y : Tree D) × (t ≡ fork true i d x y))
   red_fork tip i e = absurd (none-some i e)
   red_fork (fork false j d x y) i e = absurd (none-some i e)
@@ -79,10 +74,6 @@ module _ {X S B : Type 0} (w : Weaving X S B) (L : Lawful w) (is_near : B → Ty
     at_top (Some at) n r = r
     at_top None n r =
         (plug r.hole r.subtree, r.made, r.lists, subst (λ l. Balanced (plug l r.subtree)) (sym (hole_top r.hole (sym r.there))) (r.black, (false, r.even)))
-
-    pub out_of_steps : (at : Option (ℕ × Side)) → Closing w is_near beside m root es at 0 → Mended w is_near beside m root es
-    out_of_steps None h = h
-    out_of_steps (Some at) r = absurd (some_steps r.hole at r.there r.few)
 
     -- the gap at a node p, whose child on the other side is q
     pub record Gap (p : ℕ) (s : Side) (q n : ℕ) (b : Bool) (out mid : Tree (Data X S B)) : Type 0 where

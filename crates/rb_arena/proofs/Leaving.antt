@@ -10,7 +10,7 @@ use Rattle.rb_rules.specs.declared.slot.Data.{Data}
 use Rattle.rb_rules.specs.declared.slot.Side.{Side}
 use Rattle.rb_rules.specs.declared.slot.Side.TheVariants.{Left, Right}
 use Rattle.rb_rules.specs.declared.slot.Slot.{Slot}
-use Rattle.rb_rules.specs.Tree.{Tree, tip, fork, Hole, top, on, other, forked, plug, root_of, above, depth, height, count}
+use Rattle.rb_rules.specs.Tree.{Tree, tip, fork, Hole, top, on, other, forked, plug, root_of, above, depth, height}
 use Rattle.rb_rules.specs.Colours.{Rb, Fits, Balanced}
 use Rattle.rb_rules.specs.Memory.{Made, Spot, here, below, child, turned, AtSpot, place_of, hung, root_hung}
 use Rattle.rb_rules.specs.Shape.{each}
@@ -27,7 +27,7 @@ use Rattle.rb_rules.proofs.Spots.{upper_is, at_place}
 use Rattle.rb_rules.proofs.Unshaping as U
 use Rattle.rb_rules.proofs.Weaves.{sum-append, woven_at, near_of, entries-plug}
 use Rattle.rb_arena.specs.Closing.{Closing}
-use Rattle.rb_arena.specs.Leaving.{LeafHangsNoMore, leaf_height, Emptied, Unlinked, Unlinks, NoChild, OneChild, StillLists, Stores, StoresItem}
+use Rattle.rb_arena.specs.Leaving.{leaf_height, Emptied, Unlinked, Unlinks, NoChild, OneChild, StillLists, Stores, StoresItem}
 use Rattle.rb_arena.specs.Nodes.{Lives, LivesAt}
 use Rattle.rb_arena.specs.Placing.{IsThere}
 use Rattle.rb_arena.specs.Relative.{CanTurnNode, Turns}
@@ -209,12 +209,10 @@ module _ {X S B : Type 0} (w : Weaving X S B) (L : Lawful w) (is_near : B → Ty
     childless_spot s made (n, found, none, none2) =
         let up = upper_is m root (lying beside s) id made Left n found in (no_root s.left (sym (ap (λ o. o.left) up) ∙ none), no_root s.right (sym (ap (λ o. o.right) up) ∙ none2))
 
-    pub leaf_gone : NoChild m id → Stores w is_near is_item is_value beside m root (us ++ (id, x) ∷ vs)
-        → (at : Option (ℕ × Side)) (red : Bool) (m1 : map.FinMap nat_cmp (Slot (Data X S B))) (root1 : Option ℕ)
-        → ((k : Hole (Data X S B)) (c : Bool) (d : Data X S B) → Made beside m root (plug k (fork c id d tip tip))
-        → (at ≡ place_of k) × (red ≡ c) × Made beside m1 root1 (plug k tip) × (count id (plug k tip) + count id beside ≡ 0))
-        → Unlinked w is_near is_item is_value beside m1 root1 at red id (us ++ vs)
-    leaf_gone nc st at red m1 root1 cut =
+    pub leaf_gone : NoChild m id → Stores w is_near is_item is_value beside m root (us ++ (id, x) ∷ vs) → (at : Option (ℕ × Side)) → AtSpot m root id (λ s. at ≡ place_of s.hole)
+        → (slot : Slot (Data X S B)) → map.get m id ≡ Some slot → {m1 : map.FinMap nat_cmp (Slot (Data X S B))} {root1 : Option ℕ} → m1 ≡ hung m at None → root1 ≡ root_hung root at None
+        → Unlinked w is_near is_item is_value beside m1 root1 at slot.red id (us ++ vs)
+    leaf_gone nc st at placed slot read {m1} {root1} e1 er =
         let at_ = spotted st in let s = at_.spot in let low = at_.low in let (tl, tr) = childless_spot s at_.made nc in
         let leaf : here s id ≡ fork s.red id s.datum tip tip = λ i. fork s.red id s.datum (tl i) (tr i) in
         let k = s.hole in
@@ -222,10 +220,12 @@ module _ {X S B : Type 0} (w : Weaving X S B) (L : Lawful w) (is_near : B → Ty
         let vs_is : vs ≡ rights w k = at_.after ∙ ap (λ q. entries w (w.plus (shift_at w k) s.datum.delta) q ++ rights w k) tr in
         let list : lefts w k ++ rights w k ≡ us ++ vs = λ i. sym us_is i ++ sym vs_is i in
         let v = subst (Valued w is_item is_value) (sym list) (valued_without us (id, x) vs st.1) in
-        let (place, colour, made, apart) = cut k s.red s.datum (subst (λ t. Made beside m root (plug k t)) leaf at_.made) in
+        let old = subst (λ t. Made beside m root (plug k t)) leaf at_.made in let there = placed (lying beside s) at_.made in
+        let made : Made beside m1 root1 (plug k tip) = rw (e1, er, there) (spliced m root k Left s.red id s.datum tip old) in
         let empty = left_empty k s.red id s.datum (subst (λ t. Woven w is_near w.still (plug k t)) leaf at_.woven) (subst (λ t. Balanced (plug k t)) leaf at_.balanced) v (omega (arith, low))
-        beside m1 root1 at place made in
-        (k, list, subst (λ c. Emptied w is_near is_item is_value beside m1 root1 at c k) (sym colour) empty, apart)
+        beside m1 root1 at there made in
+        let colour : slot.red ≡ s.red = ap (λ n. n.red) (upper_is m root (lying beside s) id at_.made Left slot read) in
+        (k, list, subst (λ c. Emptied w is_near is_item is_value beside m1 root1 at c k) (sym colour) empty, gone m root k Left s.red id s.datum tip old)
 
     -- a turn towards its one child's side makes a leaf of a node
     module _ (at : Spotted) (side : Side) (j : ℕ) (is : root_of (below side at.spot) ≡ Some j) where
@@ -355,22 +355,14 @@ module _ {D : Type 0} where
   unfolding IsThere LivesAt
   place_stands tree id at (s, made) placed = rw (placed s made) (at_place tree.nodes.live tree.root s id made)
 
-  pub leaf_cut : (old new : Links D) (id : ℕ) (at : Option (ℕ × Side)) (slot : Slot D) (red : Bool) → map.get old.nodes.live id ≡ Some slot → red ≡ slot.red
-      → AtSpot old.nodes.live old.root id (λ s. at ≡ place_of s.hole) → new.nodes.live ≡ hung old.nodes.live at None → new.root ≡ root_hung old.root at None → LeafHangsNoMore old new id at red
-  unfolding LeafHangsNoMore
-  leaf_cut old new id at slot red read is placed e1 er = λ beside k c d made.
-      let s : Spot D = record { beside = beside; hole = k; red = c; datum = d; left = tip; right = tip } in
-      let place = placed s made in let colour = is ∙ ap (λ n. n.red) (upper_is old.nodes.live old.root s id made Left slot read) in
-      (place, colour, rw (e1, er, place) (spliced old.nodes.live old.root k Left c id d tip made), gone old.nodes.live old.root k Left c id d tip made)
-
   pub leaf_stays : (old new : Links D) (id : ℕ) (at : Option (ℕ × Side)) → NoChild old.nodes.live id → new.nodes.live ≡ hung old.nodes.live at None → Lives new.nodes id
   unfolding NoChild Lives
   leaf_stays old new id at (n, found, none, none2) live_ = rw live_ (live_hung old.nodes.live at None id (n, found))
 
-pub ruleset cutting_leaf = (place_stands, leaf_cut, leaf_stays)
+pub leaf_cut : {W X S B K : Type 0} (w : Ghosts W X S B K) (old new : Links (Data X S B)) (id : ℕ) (at gap : Option (ℕ × Side)) (slot : Slot (Data X S B)) (red : Bool) → StoresItem w old id → NoChild old.nodes.live id
+    → map.get old.nodes.live id ≡ Some slot → red ≡ slot.red → AtSpot old.nodes.live old.root id (λ s. at ≡ place_of s.hole) → gap ≡ at → new.nodes.live ≡ hung old.nodes.live at None → new.root ≡ root_hung old.root at None → Unlinks w old new id gap red
+unfolding StoresItem Unlinks
+leaf_cut w old new id at gap slot red (l, some) none read is placed copy e1 er = λ reach beside us x vs st.
+    rw (copy, is) (leaf_gone w.weaving l.laws (w.within reach) w.is_item w.is_sum w.is_value l.sums l.parts l.thins beside old.nodes.live old.root id us x vs none st at placed slot read e1 er)
 
-pub leaf_unlinks : {W X S B K : Type 0} (w : Ghosts W X S B K) (old new : Links (Data X S B)) (id : ℕ) (at : Option (ℕ × Side)) (red : Bool) → StoresItem w old id → NoChild old.nodes.live id
-    → LeafHangsNoMore old new id at red → Unlinks w old new id at red
-unfolding StoresItem Unlinks LeafHangsNoMore
-leaf_unlinks w old new id at red (l, some) none cut = λ reach beside us x vs st.
-    leaf_gone w.weaving l.laws (w.within reach) w.is_item w.is_sum w.is_value l.sums l.parts l.thins beside old.nodes.live old.root id us x vs none st at red new.nodes.live new.root (cut beside)
+pub ruleset leaf_unlinks = (place_stands, leaf_cut, leaf_stays)

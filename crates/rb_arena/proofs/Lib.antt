@@ -1,7 +1,5 @@
 pub mod Cases
 pub mod Climbing
-pub mod Exchanging
-pub mod Following
 pub mod Emptying
 pub mod Gaps
 pub mod Growing
@@ -33,6 +31,3 @@ pub mod Turning
 pub mod Walking
 pub mod Walks
 pub mod OwnNames
-pub mod Nearest
-pub mod Merging
-pub mod Uniting

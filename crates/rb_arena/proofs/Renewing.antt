@@ -14,19 +14,18 @@ use Rattle.rb_rules.proofs.Climbs.{can_renew}
 use Rattle.rb_rules.proofs.Spots.{upper_is}
 use Rattle.rb_arena.specs.declared.links.Links.{Links}
 use Rattle.rb_arena.specs.Relative.{CanRenewNode, CanSumOver, IsSummed, Renews}
-use Rattle.rb_arena.specs.Stopping.{GivesSum}
 use Rattle.rb_arena.proofs.Slots.{whole_below}
 
 module _ {W X S B K : Type 0} (w : Ghosts W X S B K) (old : Links (Data X S B)) (id : ℕ) (slot : Slot (Data X S B)) (found : map.get old.nodes.live id ≡ Some slot)
     (left right : S) (left_is : left ≡ whole_in w.weaving old.nodes.live slot.left) (right_is : right ≡ whole_in w.weaving old.nodes.live slot.right) where
   module _ (s : Spot (Data X S B)) (h : Made s.beside old.nodes.live old.root (plug s.hole (here s id))) where
-    lefts_is : left ≡ whole_at w.weaving s.left
+    pub lefts_is : left ≡ whole_at w.weaving s.left
     lefts_is = left_is ∙ ap (λ n. whole_in w.weaving old.nodes.live n.left) (upper_is old.nodes.live old.root s id h Left slot found) ∙ whole_below w.weaving old.nodes.live old.root s id h Left
 
-    rights_is : right ≡ whole_at w.weaving s.right
+    pub rights_is : right ≡ whole_at w.weaving s.right
     rights_is = right_is ∙ ap (λ n. whole_in w.weaving old.nodes.live n.right) (upper_is old.nodes.live old.root s id h Left slot found) ∙ whole_below w.weaving old.nodes.live old.root s id h Right
 
-    data_is : slot.«data» ≡ s.datum
+    pub data_is : slot.«data» ≡ s.datum
     data_is = ap (λ n. n.«data») (upper_is old.nodes.live old.root s id h Left slot found)
 
   pub can_sum_here : (item : X) (delta : B) → item ≡ slot.«data».item → delta ≡ slot.«data».delta → CanRenewNode w old id → CanSumOver w item delta left right
@@ -50,14 +49,4 @@ module _ {W X S B K : Type 0} (w : Ghosts W X S B K) where
   unfolding IsSummed
   renewed_node old new id slot left right datum can found left_is right_is is done = renewed_so w old id slot found left right left_is right_is new datum is done
 
--- its new sum
-module _ {W X S B K : Type 0} (w : Ghosts W X S B K) where
-  pub gives_sum : (old : Links (Data X S B)) (id : ℕ) (slot : Slot (Data X S B)) (left right : S) (datum : Data X S B) → map.get old.nodes.live id ≡ Some slot → left ≡ whole_in w.weaving old.nodes.live slot.left
-      → right ≡ whole_in w.weaving old.nodes.live slot.right → IsSummed w slot.«data».item slot.«data».delta left right datum → GivesSum w old id datum.whole
-  unfolding IsSummed GivesSum
-  gives_sum old id slot left right datum found left_is right_is is = λ s h.
-      let same : datum ≡ renewed w.weaving s = is ∙ (λ i. summed w.weaving (data_is w old id slot found left right left_is right_is s h i).item (data_is w old id slot found left right left_is right_is s h i).delta
-      (lefts_is w old id slot found left right left_is right_is s h i) (rights_is w old id slot found left right left_is right_is s h i)) in
-      ap (λ d. d.whole) same
-
-pub ruleset renewing = (can_sum_here, renewed_node, gives_sum)
+pub ruleset renewing = (can_sum_here, renewed_node)

@@ -26,16 +26,15 @@ use Rattle.rb_arena.specs.declared.links.Links.{Links}
 use Rattle.rb_arena.specs.Ends.{HangsAt, IsEnd, HangsPast, IsFirstPast, StandsLow, IsBeside}
 use Rattle.rb_arena.specs.Leaving.{StoresBeside, StoresWithin, StandsValued, StandsWoven, IsKept, IsShown, shown, StoresItem, StoresItemBeside, Leaves, Loosens, loosened}
 use Rattle.rb_arena.specs.Landing.{over, CanLand, Lands}
-use Rattle.rb_arena.specs.Nodes.{Lives, LivesIf, HeadsChain, LosesFirst, Rewritten}
-use Rattle.rb_arena.specs.Placing.{above_place, leaf_for, HangsAfter, HangsIn, HangsUnder, IsLeafFor, IsValueAlone, IsWovenPlace, ListsAt, ListsNodeAt, ListsSlotAt, Takes, TakesIn, TakesNode, TakesSlot}
+use Rattle.rb_arena.specs.Nodes.{Lives, LivesIf, HeadsChain, LosesFirst}
+use Rattle.rb_arena.specs.Placing.{above_place, HangsAfter, ListsAt, ListsNodeAt, Takes, TakesIn, TakesNode}
 use Rattle.rb_arena.specs.Relative.{LawsOf}
-use Rattle.rb_arena.specs.Stopping.{SlackTo, IsSlackTo, RenewsOver}
+use Rattle.rb_arena.specs.Stopping.{CanSet, CanSetAt, Sets}
 use Rattle.rb_arena.specs.Rising.{Mended, MendedBeside}
 use Rattle.rb_arena.specs.Searching.{Found, StandsIn, CanGoDown, FindsBelow, StepsBelow, CanGoOn, FindsOn, StepsOn, CanSearchAfter, GoesOn, StepsAfter, items_after}
 use Rattle.rb_arena.specs.Shifting.{FindsReach, Reaches, CanShiftAll, ShiftsAll}
-use Rattle.rb_arena.specs.RbTree.{Listed, NamesDiffer, items_in, loose_in, seen, Kept, KeepsWithin, IsItem, AtItem, HasPut, PlaceAfter, SumsPut, SumsLanded, SumsWith, SumsWithAndTo, HasInstead, HasInsteadAndAfter, with_item, SplitsAt, SplitsAfter, EndsWith, CanMoveAfter, SumsMoved, LeavesOut, first_hole, HasLifted, end_hole, front_of, name_at_end, name_beside}
+use Rattle.rb_arena.specs.RbTree.{Listed, NamesDiffer, items_in, loose_in, seen, Kept, KeepsWithin, IsItem, AtItem, HasPut, PlaceAfter, SumsPut, SumsLanded, SumsWith, HasInstead, SplitsAt, SplitsAfter, EndsWith, CanMoveAfter, SumsMoved, LeavesOut, first_hole, HasLifted, end_hole, front_of, name_at_end, name_beside}
 use Rattle.rb_arena.proofs.Climbing.{square_is, thrice}
-use Rattle.rb_arena.proofs.Following.{right_hole, hole_after, hangs_after, woven_after, own_after, next_alone, same_leaf, can_hang, right_after, both_there}
 use Rattle.rb_arena.proofs.Growing.{length-entries}
 use Rattle.rb_arena.proofs.Keeping.{Node, Shows, made_there, woven_there, all_items, all_stored, beside_there, items_seen, loose_seen, node_of, own_spot, stands_item, stored_there, value_there, without_item, woven_spot}
 use Rattle.rb_arena.proofs.Landing.{can_land, front_is, front_slot, holds_put, landed, next_lives, others_are, place_from, put_from, rest, can_put, hanging, has_put, has_put_at, hole, put_at, sums_put, loosened_list, none_strung, the_front, front_found}
@@ -45,7 +44,7 @@ use Rattle.rb_arena.proofs.Moving.{can_shift_all}
 use Rattle.rb_arena.proofs.OwnNames.{own_names}
 use Rattle.rb_arena.proofs.Paths.{above-place}
 use Rattle.rb_arena.proofs.Searches.{stands_top}
-use Rattle.rb_arena.proofs.Setting.{with_own, slack_there, kept_there}
+use Rattle.rb_arena.proofs.Setting.{can_set_there, kept_there}
 use Rattle.rb_arena.proofs.Slots.{upper_at}
 use Rattle.rb_arena.proofs.Splitting as split
 
@@ -358,126 +357,42 @@ module _ {W X S B K : Type 0} (w : Ghosts W X S B K) (reach : B) (links : Links 
   unfolding Kept StandsWoven
   stands_woven (l, fits, kept) shows (us, (x, (vs, e))) = let n = node_at kept shows us x vs e in (l, (own_spot n, woven_spot n (l.within_near reach)))
 
-  module _ (item own : X) (mid : Links (Data X S B)) where
+  module _ (item own : X) where
     module _ (l : LawsOf w) (kept : KeepsWithin w reach links front) (shows : seen w.weaving links front ≡ view) (value : w.is_item item) (sum : SumsWith w.weaving w.is_value view.items id item)
-        (is_own : IsKept w links id item own) (made : Rewritten links mid id (λ s. with_item s.datum own)) (us : List (ℕ × X)) (x : X) (vs : List (ℕ × X)) (e : SplitsAt view.items id us x vs) where
+        (is_own : IsKept w links id item own) (us : List (ℕ × X)) (x : X) (vs : List (ℕ × X)) (e : SplitsAt view.items id us x vs) where
       own_is : shown w.weaving (node_at kept shows us x vs e).spot own ≡ item
       unfolding IsKept
       own_is = let n = node_at kept shows us x vs e in is_own (own_spot n) (woven_spot n (l.within_near reach))
 
-      slack_at : SlackTo w.weaving (w.within reach) w.is_item w.is_value kept.beside mid.nodes.live mid.root (Some id) id 128
-          (with_own (node_at kept shows us x vs e) l.laws l.sums l.parts item own value (sum us x vs e) own_is)
-      slack_at =
-          let n = node_at kept shows us x vs e in
-          slack_there n l.laws l.sums l.parts item own value (sum us x vs e) own_is mid.nodes.live mid.root (made (own_spot n) (made_there n))
+      can_set_at : CanSetAt w links id own reach (own_spot (node_at kept shows us x vs e))
+      can_set_at = can_set_there (node_at kept shows us x vs e) l.laws item own value (sum us x vs e) own_is
 
-      shows_set : (new : Links (Data X S B)) → map.len new.nodes.live ≡ map.len links.nodes.live → RenewsOver w mid new (Some id) id → Shows w reach new front (us ++ (id, item) ∷ vs) view.loose
-      unfolding RenewsOver seen
-      shows_set new many renews =
+      shows_set : (new : Links (Data X S B)) → map.len new.nodes.live ≡ map.len links.nodes.live → Sets w links new id own → Shows w reach new front (us ++ (id, item) ∷ vs) view.loose
+      unfolding Sets seen
+      shows_set new many sets =
           let n = node_at kept shows us x vs e in
-          let (keeps, are, left) = kept_there n l.laws l.sums l.parts item own value (sum us x vs e) own_is new.nodes.live new.root (renews reach kept.beside _ slack_at) many in
+          let (keeps, are, left) = kept_there n l.laws item own value (sum us x vs e) own_is new.nodes.live new.root (sets reach (own_spot n) can_set_at) many in
           (keeps, are, left ∙ ap (λ q. q.loose) shows)
 
-    pub slack_set_item : Kept w reach links front → seen w.weaving links front ≡ view → IsItem view.items id → w.is_item item → SumsWith w.weaving w.is_value view.items id item → IsKept w links id item own
-        → Rewritten links mid id (λ s. with_item s.datum own) → IsSlackTo w mid (Some id) id
-    unfolding Kept IsSlackTo
-    slack_set_item (l, fits, kept) shows (us, (x, (vs, e))) value sum is_own made = (l, (reach, (kept.beside, (_, slack_at l kept shows value sum is_own made us x vs e))))
+    pub can_set : Kept w reach links front → seen w.weaving links front ≡ view → IsItem view.items id → w.is_item item → SumsWith w.weaving w.is_value view.items id item → IsKept w links id item own → CanSet w links id own
+    unfolding Kept CanSet
+    can_set (l, fits, kept) shows (us, (x, (vs, e))) value sum is_own = (l, (reach, (_, can_set_at l kept shows value sum is_own us x vs e)))
 
     module _ (new : Links (Data X S B)) (many : map.len new.nodes.live ≡ map.len links.nodes.live) where
       pub kept_set : Kept w reach links front → seen w.weaving links front ≡ view → IsItem view.items id → w.is_item item → SumsWith w.weaving w.is_value view.items id item → IsKept w links id item own
-          → Rewritten links mid id (λ s. with_item s.datum own) → RenewsOver w mid new (Some id) id → Kept w reach new front
+          → Sets w links new id own → Kept w reach new front
       unfolding Kept
-      kept_set (l, fits, kept) shows (us, (x, (vs, e))) value sum is_own made renews = (l, fits, (shows_set l kept shows value sum is_own made us x vs e new many renews).0)
+      kept_set (l, fits, kept) shows (us, (x, (vs, e))) value sum is_own sets = (l, fits, (shows_set l kept shows value sum is_own us x vs e new many sets).0)
 
       pub items_set : Kept w reach links front → seen w.weaving links front ≡ view → w.is_item item → SumsWith w.weaving w.is_value view.items id item → IsKept w links id item own
-          → Rewritten links mid id (λ s. with_item s.datum own) → RenewsOver w mid new (Some id) id → HasInstead view.items (seen w.weaving new front).items id item
+          → Sets w links new id own → HasInstead view.items (seen w.weaving new front).items id item
       unfolding Kept seen
-      items_set (l, fits, kept) shows value sum is_own made renews = λ us x vs e. (shows_set l kept shows value sum is_own made us x vs e new many renews).1
+      items_set (l, fits, kept) shows value sum is_own sets = λ us x vs e. (shows_set l kept shows value sum is_own us x vs e new many sets).1
 
       pub loose_set : Kept w reach links front → seen w.weaving links front ≡ view → IsItem view.items id → w.is_item item → SumsWith w.weaving w.is_value view.items id item → IsKept w links id item own
-          → Rewritten links mid id (λ s. with_item s.datum own) → RenewsOver w mid new (Some id) id → (seen w.weaving new front).loose ≡ view.loose
+          → Sets w links new id own → (seen w.weaving new front).loose ≡ view.loose
       unfolding Kept seen
-      loose_set (l, fits, kept) shows (us, (x, (vs, e))) value sum is_own made renews = (shows_set l kept shows value sum is_own made us x vs e new many renews).2
-
-  -- and a new one right after it
-  pub past_item : Kept w reach links front → seen w.weaving links front ≡ view → IsItem view.items id → HangsPast links (Some id)
-  past_item kept shows named = past_seen w reach links front view (Some id) named kept shows
-
-  pub next_value : (item own stored : X) → Kept w reach links front → seen w.weaving links front ≡ view → IsItem view.items id → IsKept w links id own stored → w.is_item own → w.is_item item → SumsWithAndTo w.weaving w.is_value view.items id own item → IsValueAlone w item
-  unfolding Kept
-  next_value item own stored (l, fits, kept) shows (us, (x, (vs, e))) is_stored value next sum = next_alone (node_at kept shows us x vs e) l.laws l.sums l.parts own item value next (sum us x vs e)
-
-  pub place_woven : (at : Option (ℕ × Side)) → Kept w reach links front → seen w.weaving links front ≡ view → IsItem view.items id → IsFirstPast links (Some id) at → IsWovenPlace w links at
-  unfolding Kept IsWovenPlace IsFirstPast
-  place_woven at (l, fits, kept) shows (us, (x, (vs, e))) first =
-      let n = node_at kept shows us x vs e in (l, (kept.beside, (tip, (hole_after n, woven_after n (l.within_near reach) (first kept.beside n.spot.right (right_hole n) (hangs_after n))))))
-
-  module _ (item own stored : X) (at : Option (ℕ × Side)) where
-    module _ (mid : Links (Data X S B)) (leaf : Slot (Data X S B)) where
-      module _ (l : LawsOf w) (kept : KeepsWithin w reach links front) (shows : seen w.weaving links front ≡ view) (value : w.is_item own) (next : w.is_item item)
-          (sum : SumsWithAndTo w.weaving w.is_value view.items id own item) (first : IsFirstPast links (Some id) at) (is_leaf : IsLeafFor w links at item leaf)
-          (is_stored : IsKept w links id own stored) (made : Rewritten links mid id (λ s. with_item s.datum stored)) (us : List (ℕ × X)) (x : X) (vs : List (ℕ × X)) (e : SplitsAt view.items id us x vs) where
-        stored_is : shown w.weaving (node_at kept shows us x vs e).spot stored ≡ own
-        unfolding IsKept
-        stored_is = let n = node_at kept shows us x vs e in is_stored (own_spot n) (woven_spot n (l.within_near reach))
-
-        place_is : at ≡ place_of (hole_after (node_at kept shows us x vs e))
-        unfolding IsFirstPast
-        place_is = let n = node_at kept shows us x vs e in first kept.beside n.spot.right (right_hole n) (hangs_after n)
-
-        abbrev hole_then : Hole (Data X S B)
-        hole_then = own_after (node_at kept shows us x vs e) l.laws l.sums l.parts own item value next (sum us x vs e) stored stored_is
-
-        hangs_then : HangsIn w mid at reach kept.beside item hole_then
-        hangs_then =
-            let n = node_at kept shows us x vs e in
-            can_hang n l.laws l.sums l.parts own item value next (sum us x vs e) stored stored_is place_is (made (own_spot n) (made_there n))
-
-        under_then : HangsUnder w mid at reach kept.beside item hole_then (Some id)
-        under_then = let n = node_at kept shows us x vs e in (hangs_then, right_after n l.laws l.sums l.parts own item value next (sum us x vs e) stored stored_is)
-
-        leaf_then : leaf ≡ leaf_for w.weaving hole_then item
-        unfolding IsLeafFor
-        leaf_then =
-            let n = node_at kept shows us x vs e in
-            is_leaf kept.beside tip (hole_after n) (woven_after n (l.within_near reach) place_is) ∙ same_leaf n l.laws l.sums l.parts own item value next (sum us x vs e) stored stored_is
-
-        shows_both : (name : ℕ) (new : Links (Data X S B)) → ListsSlotAt w mid new at name leaf (Some id) → map.len mid.nodes.live ≡ map.len links.nodes.live → map.len new.nodes.live ≡ map.len mid.nodes.live + 1
-            → map.len new.nodes.live + new.nodes.spare < 2 ^ 63 → Shows w reach new front (us ++ (id, own) ∷ (name, item) ∷ vs) view.loose
-        unfolding ListsSlotAt seen
-        shows_both name new lists same many few =
-            let n = node_at kept shows us x vs e in
-            let (keeps, are, left) = both_there n l.laws l.sums l.parts own item value next (sum us x vs e) stored stored_is name new
-            (lists reach kept.beside hole_then item under_then leaf_then) (omega (arith, many, same)) (omega (arith, few)) in
-            (keeps, are, left ∙ ap (λ q. q.loose) shows)
-
-      pub slot_taken : Kept w reach links front → seen w.weaving links front ≡ view → IsItem view.items id → w.is_item own → w.is_item item → SumsWithAndTo w.weaving w.is_value view.items id own item
-          → IsFirstPast links (Some id) at → IsLeafFor w links at item leaf → IsKept w links id own stored → Rewritten links mid id (λ s. with_item s.datum stored) → TakesSlot w mid at leaf (Some id)
-      unfolding Kept TakesSlot
-      slot_taken (l, fits, kept) shows (us, (x, (vs, e))) value next sum first is_leaf is_stored made =
-          (l, (reach, (kept.beside, (_, (item, under_then l kept shows value next sum first is_leaf is_stored made us x vs e, leaf_then l kept shows value next sum first is_leaf is_stored made us x vs e)))))
-
-      module _ (name : ℕ) (new : Links (Data X S B)) (same : map.len mid.nodes.live ≡ map.len links.nodes.live) (many : map.len new.nodes.live ≡ map.len mid.nodes.live + 1)
-          (few : map.len new.nodes.live + new.nodes.spare < 2 ^ 63) where
-        pub kept_both : Kept w reach links front → seen w.weaving links front ≡ view → IsItem view.items id → w.is_item own → w.is_item item → SumsWithAndTo w.weaving w.is_value view.items id own item
-            → IsFirstPast links (Some id) at → IsLeafFor w links at item leaf → IsKept w links id own stored → Rewritten links mid id (λ s. with_item s.datum stored) → ListsSlotAt w mid new at name leaf (Some id) → Kept w reach new front
-        unfolding Kept
-        kept_both (l, fits, kept) shows (us, (x, (vs, e))) value next sum first is_leaf is_stored made lists =
-            (l, fits, (shows_both l kept shows value next sum first is_leaf is_stored made us x vs e name new lists same many few).0)
-
-        pub items_both : Kept w reach links front → seen w.weaving links front ≡ view → w.is_item own → w.is_item item → SumsWithAndTo w.weaving w.is_value view.items id own item
-            → IsFirstPast links (Some id) at → IsLeafFor w links at item leaf → IsKept w links id own stored → Rewritten links mid id (λ s. with_item s.datum stored) → ListsSlotAt w mid new at name leaf (Some id)
-            → HasInsteadAndAfter view.items (seen w.weaving new front).items id own (name, item)
-        unfolding Kept seen
-        items_both (l, fits, kept) shows value next sum first is_leaf is_stored made lists = λ us x vs e.
-            (shows_both l kept shows value next sum first is_leaf is_stored made us x vs e name new lists same many few).1
-
-        pub loose_both : Kept w reach links front → seen w.weaving links front ≡ view → IsItem view.items id → w.is_item own → w.is_item item → SumsWithAndTo w.weaving w.is_value view.items id own item
-            → IsFirstPast links (Some id) at → IsLeafFor w links at item leaf → IsKept w links id own stored → Rewritten links mid id (λ s. with_item s.datum stored) → ListsSlotAt w mid new at name leaf (Some id)
-            → (seen w.weaving new front).loose ≡ view.loose
-        unfolding Kept seen
-        loose_both (l, fits, kept) shows (us, (x, (vs, e))) value next sum first is_leaf is_stored made lists =
-            (shows_both l kept shows value next sum first is_leaf is_stored made us x vs e name new lists same many few).2
+      loose_set (l, fits, kept) shows (us, (x, (vs, e))) value sum is_own sets = (shows_set l kept shows value sum is_own us x vs e new many sets).2
 
 -- the front loose node lands at a place
 module _ {W X S B K : Type 0} (w : Ghosts W X S B K) (reach : B) (links : Links (Data X S B)) (front : Option ℕ) where
@@ -755,6 +670,4 @@ pub ruleset landing = (land_heads, land_lives, land_takes, landed_so)
 
 pub ruleset landing_after = (no_loose, front_named, past_seen, can_land_at, kept_landed, items_landed, loose_landed, spare_seen)
 
-pub ruleset setting = (stands_woven, stands_seen, slack_set_item, kept_set, items_set, loose_set, spare_seen)
-
-pub ruleset setting_and_inserting = (past_item, place_woven, next_value, stands_woven, stands_seen, slot_taken, kept_both, items_both, loose_both, spare_seen)
+pub ruleset setting = (stands_woven, can_set, kept_set, items_set, loose_set, spare_seen)

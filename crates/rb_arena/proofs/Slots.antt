@@ -33,27 +33,26 @@ module _ {D : Type 0} where
 
   module _ (m : map.FinMap nat_cmp (Slot D)) (root : Option ℕ) where
     -- the node above a hole, by the hole's place
-    pub record Upper (beside : Tree D) (k : Hole D) (t : Tree D) (at : ℕ × Side) : Type 0 where
+    pub record Upper (k : Hole D) (t : Tree D) (at : ℕ × Side) : Type 0 where
       pub spot : Spot D
       pub made : Made spot.beside m root (plug spot.hole (here spot at.0))
-      pub is_beside : spot.beside ≡ beside
       pub hole_is : k ≡ on at.1 spot.red at.0 spot.datum (below (other at.1) spot) spot.hole
       pub below_is : below at.1 spot ≡ t
 
-    upper_on : (beside : Tree D) (side : Side) (red : Bool) (i : ℕ) (d : D) (x : Tree D) (k : Hole D) (t : Tree D) → Made beside m root (plug (on side red i d x k) t) → Upper beside (on side red i d x k) t (i, side)
+    upper_on : (beside : Tree D) (side : Side) (red : Bool) (i : ℕ) (d : D) (x : Tree D) (k : Hole D) (t : Tree D) → Made beside m root (plug (on side red i d x k) t) → Upper (on side red i d x k) t (i, side)
     upper_on beside Left red i d x k t h =
-        record { spot = record { beside = beside; hole = k; red = red; datum = d; left = t; right = x }; made = h; is_beside = refl; hole_is = refl; below_is = refl }
+        record { spot = record { beside = beside; hole = k; red = red; datum = d; left = t; right = x }; made = h; hole_is = refl; below_is = refl }
     upper_on beside Right red i d x k t h =
-        record { spot = record { beside = beside; hole = k; red = red; datum = d; left = x; right = t }; made = h; is_beside = refl; hole_is = refl; below_is = refl }
+        record { spot = record { beside = beside; hole = k; red = red; datum = d; left = x; right = t }; made = h; hole_is = refl; below_is = refl }
 
-    pub upper_at : {beside : Tree D} (k : Hole D) (t : Tree D) → Made beside m root (plug k t) → {at : ℕ × Side} → place_of k ≡ Some at → Upper beside k t at
+    pub upper_at : {beside : Tree D} (k : Hole D) (t : Tree D) → Made beside m root (plug k t) → {at : ℕ × Side} → place_of k ≡ Some at → Upper k t at
     upper_at {beside} k t h {at} named =
         let (red, (d, x, k2, same)) = hole_on k at.0 at.1 named in
-        subst (λ l. Upper beside l t at) (sym same) (upper_on beside at.1 red at.0 d x k2 t (subst (λ l. Made beside m root (plug l t)) same h))
+        subst (λ l. Upper l t at) (sym same) (upper_on beside at.1 red at.0 d x k2 t (subst (λ l. Made beside m root (plug l t)) same h))
 
     -- the node above a node, by what was read of its place
     pub parent_of : (s : Spot D) (i : ℕ) → Made s.beside m root (plug s.hole (here s i)) → {place : Option (ℕ × Side)} → AtSpot m root i (λ q. place ≡ place_of q.hole) → {at : ℕ × Side} → place ≡ Some at
-        → Upper s.beside s.hole (here s i) at
+        → Upper s.hole (here s i) at
     parent_of s i h told is = upper_at s.hole (here s i) h (sym (told s h) ∙ is)
 
 -- the node above a node

@@ -161,7 +161,7 @@ module _ {D : Type 0} (tree : Links D) where
 
     -- the node above another, by the slot that was read of it
     upper : (q : Spot D) (low high : ℕ) (slot : Slot D) → Made q.beside tree.nodes.live tree.root (plug q.hole (here q low)) → above q.hole ≡ Some high → node tree.nodes high ≡ Some slot
-        → Upper tree.nodes.live tree.root q.beside q.hole (here q low) (high, side_by_name slot low)
+        → Upper tree.nodes.live tree.root q.hole (here q low) (high, side_by_name slot low)
     upper q low high slot made named read = upper_at tree.nodes.live tree.root q.hole (here q low) made (sym (side_is tree.nodes.live tree.root q low made high named slot read))
 
     pub nears_above_first : (parent : Option ℕ) → IsParent tree id parent → NearsAbove tree id side id parent 128 0

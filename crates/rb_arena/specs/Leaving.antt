@@ -37,13 +37,6 @@ module _ {D : Type 0} (m : map.FinMap nat_cmp (Slot D)) (id : ℕ) where
   unfoldable pub NoChild : Type 0
   NoChild = (n : Slot D) × (map.get m id ≡ Some n) × (n.left ≡ None) × (n.right ≡ None)
 
-module _ {D : Type 0} (old new : Links D) (id : ℕ) (at : Option (ℕ × Side)) (red : Bool) where
-  -- wherever the node was a leaf, that is its place and its colour, and it is in neither tree any more
-  unfoldable pub LeafHangsNoMore : Type 0
-  LeafHangsNoMore =
-      (beside : Tree D) (k : Hole D) (c : Bool) (d : D) → Made beside old.nodes.live old.root (plug k (fork c id d tip tip))
-      → (at ≡ place_of k) × (red ≡ c) × Made beside new.nodes.live new.root (plug k tip) × (count id (plug k tip) + count id beside ≡ 0)
-
 module _ {X S B : Type 0} (w : Weaving X S B) (is_near : B → Type 0) (is_item : X → Type 0) (is_value : S → Type 0)
     (beside : Tree (Data X S B)) (m : map.FinMap nat_cmp (Slot (Data X S B))) (root : Option ℕ) where
   -- a red-black tree with the right sums and the items es lies in the memory

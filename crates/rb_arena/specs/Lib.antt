@@ -1,13 +1,11 @@
 pub mod Closing
 pub mod Ends
 mod Examples
-pub mod Exchanging
 pub mod Items
 pub mod Landing
 pub mod Leaving
 pub mod Mending
 pub mod Nodes
-pub mod Pairs
 pub mod Placing
 pub mod Relative
 pub mod Rewriting
@@ -18,4 +16,3 @@ pub mod Stopping
 pub mod RbTree
 pub mod Names
 pub mod Walking
-pub mod Merging

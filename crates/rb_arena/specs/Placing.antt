@@ -11,13 +11,11 @@ use Rattle.rb_rules.specs.declared.weave.Weave.{Ghosts}
 use Rattle.rb_rules.specs.Tree.{Tree, tip, Hole, plug, above, depth, root_of, height, count}
 use Rattle.rb_rules.specs.Colours.{Balanced}
 use Rattle.rb_rules.specs.Memory.{sided, Made, Stands, place_of}
-use Rattle.rb_rules.specs.Sound.{Slack}
 use Rattle.rb_rules.specs.Weaving.{Weaving, summed}
 use Rattle.rb_rules.specs.Woven.{Woven, Valued, lefts, rights, shift_at}
 use Rattle.rb_arena.specs.declared.links.Links.{Links}
 use Rattle.rb_arena.specs.Relative.{LawsOf, RelativeBy, RelativeItem, CanSumOver}
 use Rattle.rb_arena.specs.Rising.{MendedBeside}
-use Rattle.rb_arena.specs.Stopping.{RightIf}
 
 -- the shift of the subtree on that side of a node, from that of the node
 abbrev pub passed : {X S B : Type 0} → Weaving X S B → Side → B → B → B
@@ -43,15 +41,6 @@ module _ {X S B : Type 0} (w : Weaving X S B) (is_near : B → Type 0) (beside :
   abbrev pub CanTake : (X → Type 0) → (S → Type 0) → X → Hole (Data X S B) → Type 0
   CanTake is_item is_value x k =
       WovenAt tip k × Balanced (plug k tip) × Valued w is_item is_value (lefts w k ++ (0, x) ∷ rights w k)
-
-  -- the same where the sums of the nodes above the place may be wrong, but not those of the subtrees beside the path
-  pub record CanHang (is_item : X → Type 0) (is_value : S → Type 0) (x : X) (k : Hole (Data X S B)) : Type 0 where
-    pub hole : HoleAt beside m root place tip k
-    pub near : is_near (shift_at w k)
-    pub slack : Slack w is_near k
-    pub few : depth k ≤ 128
-    pub balanced : Balanced (plug k tip)
-    pub values : Valued w is_item is_value (lefts w k ++ (0, x) ∷ rights w k)
 
 -- what a node keeps of an item, below a path with that shift
 abbrev pub kept_below : {X S B : Type 0} → Weaving X S B → B → X → X
@@ -180,25 +169,11 @@ module _ {W X S B K : Type 0} (w : Ghosts W X S B K) where
         LawsOf w × ((reach : B) × ((beside : Tree (Data X S B)) × ((k : Hole (Data X S B)) × TakesIn reach beside item k
         × (count id (plug k tip) + count id beside ≡ 0))))
 
-    -- the item may come to that hole, whatever the sums above it
-    abbrev pub HangsIn : B → Tree (Data X S B) → X → Hole (Data X S B) → Type 0
-    HangsIn reach beside item k = CanHang w.weaving (w.within reach) beside tree.nodes.live tree.root at w.is_item w.is_value item k
-
-    -- the same, and above the node named last, if there is one, all is right for the sum that it keeps
-    abbrev pub HangsUnder : B → Tree (Data X S B) → X → Hole (Data X S B) → Option ℕ → Type 0
-    HangsUnder reach beside item k last = HangsIn reach beside item k × RightIf w.weaving (w.within reach) last k
-
-    -- the slot is that of a leaf for the place
-    unfoldable pub TakesSlot : Slot (Data X S B) → Option ℕ → Type 0
-    TakesSlot slot last =
-        LawsOf w × ((reach : B) × ((beside : Tree (Data X S B)) × ((k : Hole (Data X S B)) × ((x : X)
-        × HangsUnder reach beside x k last × (slot ≡ leaf_for w.weaving k x)))))
-
     -- the node is a leaf for the place
-    unfoldable pub TakesLeaf : ℕ → Option ℕ → Type 0
-    TakesLeaf id last =
+    unfoldable pub TakesLeaf : ℕ → Type 0
+    TakesLeaf id =
         LawsOf w × ((reach : B) × ((beside : Tree (Data X S B)) × ((k : Hole (Data X S B)) × ((x : X)
-        × HangsUnder reach beside x k last × IsLeaf w.weaving beside tree.nodes.live id x k))))
+        × TakesIn reach beside x k × IsLeaf w.weaving beside tree.nodes.live id x k))))
 
   module _ (old new : Links (Data X S B)) (at : Option (ℕ × Side)) (id : ℕ) where
     -- whatever tree the place is in, it lists the item there under that name, and is red-black
@@ -215,15 +190,8 @@ module _ {W X S B K : Type 0} (w : Ghosts W X S B K) where
         → MendedBeside w reach beside new (lefts w.weaving k ++ (id, item) ∷ rights w.weaving k)
 
     -- and of one that was a leaf for the place
-    unfoldable pub ListsLeafAt : Option ℕ → Type 0
-    ListsLeafAt last =
-        (reach : B) (beside : Tree (Data X S B)) (k : Hole (Data X S B)) (x : X) → HangsUnder old at reach beside x k last
+    unfoldable pub ListsLeafAt : Type 0
+    ListsLeafAt =
+        (reach : B) (beside : Tree (Data X S B)) (k : Hole (Data X S B)) (x : X) → TakesIn old at reach beside x k
         → IsLeaf w.weaving beside old.nodes.live id x k
-        → MendedBeside w reach beside new (lefts w.weaving k ++ (id, x) ∷ rights w.weaving k)
-
-    -- and of a new one, for which that leaf was made
-    unfoldable pub ListsSlotAt : Slot (Data X S B) → Option ℕ → Type 0
-    ListsSlotAt slot last =
-        (reach : B) (beside : Tree (Data X S B)) (k : Hole (Data X S B)) (x : X) → HangsUnder old at reach beside x k last
-        → slot ≡ leaf_for w.weaving k x
         → MendedBeside w reach beside new (lefts w.weaving k ++ (id, x) ∷ rights w.weaving k)

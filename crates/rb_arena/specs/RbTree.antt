@@ -76,10 +76,6 @@ module _ {X : Type 0} where
   abbrev pub HasAfter : List (ℕ × X) → List (ℕ × X) → ℕ → ℕ × X → Type 0
   HasAfter old new id entry = AtItem old id (λ us x vs. new ≡ us ++ (id, x) ∷ entry ∷ vs)
 
-  -- the new list is the old one with that item in the place of the one of that name, and that entry right after it
-  abbrev pub HasInsteadAndAfter : List (ℕ × X) → List (ℕ × X) → ℕ → X → ℕ × X → Type 0
-  HasInsteadAndAfter old new id own entry = AtItem old id (λ us x vs. new ≡ us ++ (id, own) ∷ entry ∷ vs)
-
   -- the new list is the old one with that entry right after the item of that name, or before all items
   abbrev pub HasPut : List (ℕ × X) → List (ℕ × X) → Option ℕ → ℕ × X → Type 0
   HasPut old new None entry = new ≡ entry ∷ old
@@ -195,11 +191,6 @@ with_item d x = record { item = x; delta = d.delta; before = d.before; whole = d
 -- the sum of the items is a value once that item stands in the place of the one of that name
 abbrev pub SumsWith : {X S B : Type 0} → Weaving X S B → (S → Type 0) → List (ℕ × X) → ℕ → X → Type 0
 SumsWith w is_value items id item = AtItem items id (λ us x vs. is_value (sum_of w (us ++ (id, item) ∷ vs)))
-
--- the same with another item right after it
-abbrev pub SumsWithAndTo : {X S B : Type 0} → Weaving X S B → (S → Type 0) → List (ℕ × X) → ℕ → X → X → Type 0
-SumsWithAndTo w is_value items id own item =
-    AtItem items id (λ us x vs. is_value (sum_of w (us ++ (id, own) ∷ (0, item) ∷ vs)))
 
 -- the name of the last item, or o where there is none
 abbrev pub last_or : {X : Type 0} → Option ℕ → List (ℕ × X) → Option ℕ

@@ -8,7 +8,7 @@ ghost use Rattle.rb_arena.specs.Searching.{CanSearchAfter, GoesOn, StepsAfter};
 
 use crate::climb::LONGEST;
 use crate::insert::{copy_of, shift_to};
-use crate::links::{Links, Place, place, visit};
+use crate::links::{Links, place, visit};
 use crate::sums::whole;
 use raw_arena::NodeId;
 use rb_rules::{Data, Side, Slot, Turn, Weave};

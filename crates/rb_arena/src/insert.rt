@@ -1,15 +1,15 @@
 //! A new item at a place of the tree.
-ghost use Rattle.std.specs.Prelude.{◌≡◌, ◌+◌, ◌-◌, ◌<◌, ◌≤◌, ◌^◌};
+ghost use Rattle.std.specs.Prelude.{◌≡◌, ◌-◌, ◌<◌};
 ghost use Rattle.rb_arena.specs.Nodes.{GainsOne, KeepsCount, Lives};
 ghost use Rattle.rb_arena.specs.Placing as placing;
 ghost use Rattle.rb_arena.specs.Placing.{above_place, passed, IsWovenPlace, IsShiftTo};
 ghost use Rattle.rb_arena.specs.Placing.{CanPass, StepsTo};
 ghost use Rattle.rb_arena.specs.Placing.{IsValueAlone, IsLeafFor, CanKeep, CanKeepAlone};
-ghost use Rattle.rb_arena.specs.Placing.{Takes, TakesLeaf, TakesNode, TakesSlot};
-ghost use Rattle.rb_arena.specs.Placing.{ListsAt, ListsLeafAt, ListsNodeAt, ListsSlotAt};
+ghost use Rattle.rb_arena.specs.Placing.{Takes, TakesLeaf, TakesNode};
+ghost use Rattle.rb_arena.specs.Placing.{ListsAt, ListsLeafAt, ListsNodeAt};
 
-use crate::climb::{LONGEST, renew_under};
-use crate::links::{Links, Place, hang, place, read, visit, write};
+use crate::climb::{LONGEST, renew_up};
+use crate::links::{Links, Place, hang, place, visit, write};
 use crate::mend::mend;
 use crate::sums::summed;
 use raw_arena::NodeId;
@@ -106,7 +106,7 @@ fn leaf_below<W: Weave>(by: W::By, item: W::Item) -> Data<W::Item, W::Sum, W::By
 
 /// A leaf for an empty place.
 #[tactic(auto, using(crate::proofs::Inserting::making_leaf))]
-pub(crate) fn leaf_at<W: Weave>(
+fn leaf_at<W: Weave>(
     tree: &Links<Data<W::Item, W::Sum, W::By>>,
     at: &Place,
     item: W::Item,
@@ -120,41 +120,17 @@ pub(crate) fn leaf_at<W: Weave>(
     Slot::sided(Side::Left, parent_at(at), None, None, true, datum)
 }
 
-/// Hangs a leaf at an empty place. The sums of the nodes above may be wrong before, but for those above one that is named, which are
-/// right for the sum that it keeps: where that stays, the walk ends there.
+/// Hangs a leaf at an empty place.
 #[tactic(auto, using(crate::proofs::Inserting::hung_leaf))]
-fn hang_leaf<W: Weave>(
-    tree: &mut Links<Data<W::Item, W::Sum, W::By>>,
-    at: Place,
-    id: NodeId,
-    last: Option<NodeId>,
-)
-    requires { TakesLeaf W.Weave tree.old at id last }
-    ensures mended { ListsLeafAt W.Weave tree.old tree.new at id last }
+fn hang_leaf<W: Weave>(tree: &mut Links<Data<W::Item, W::Sum, W::By>>, at: Place, id: NodeId)
+    requires { TakesLeaf W.Weave tree.old at id }
+    ensures mended { ListsLeafAt W.Weave tree.old tree.new at id }
     ensures count { KeepsCount tree.old.nodes tree.new.nodes }
 {
     let parent = parent_at(&at);
     hang(tree, at, Some(id));
-    renew_under::<W>(tree, parent, last);
+    renew_up::<W>(tree, parent);
     mend::<W>(tree, id);
-}
-
-/// The same for a new leaf.
-#[tactic(auto, using(crate::proofs::Inserting::hung_new))]
-pub(crate) fn hang_new<W: Weave>(
-    tree: &mut Links<Data<W::Item, W::Sum, W::By>>,
-    at: Place,
-    leaf: Slot<Data<W::Item, W::Sum, W::By>>,
-    last: Option<NodeId>,
-) -> NodeId
-    requires room { 0 < tree.old.nodes.spare }
-    requires leaf { TakesSlot W.Weave tree.old at leaf last }
-    ensures mended { ListsSlotAt W.Weave tree.old tree.new at result leaf last }
-    ensures count { GainsOne tree.old.nodes tree.new.nodes }
-{
-    let id = tree.nodes.put(Packed::of(&leaf));
-    hang_leaf::<W>(tree, at, id, last);
-    id
 }
 
 /// Puts an item at an empty place.
@@ -170,7 +146,9 @@ pub(crate) fn insert_at<W: Weave>(
     ensures count { GainsOne tree.old.nodes tree.new.nodes }
 {
     let leaf = leaf_at::<W>(tree, &at, item);
-    hang_new::<W>(tree, at, leaf, None)
+    let id = tree.nodes.put(Packed::of(&leaf));
+    hang_leaf::<W>(tree, at, id);
+    id
 }
 
 /// Puts an item at an empty place, at a node that stands in no tree.
@@ -188,5 +166,5 @@ pub(crate) fn land_at<W: Weave>(
 {
     let leaf = leaf_at::<W>(tree, &at, item);
     write(&mut tree.nodes, id, leaf);
-    hang_leaf::<W>(tree, at, id, None);
+    hang_leaf::<W>(tree, at, id);
 }

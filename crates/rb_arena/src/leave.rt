@@ -1,9 +1,9 @@
 //! A node leaves the tree.
-ghost use Rattle.std.specs.Prelude.{◌≡◌, ◌+◌, None};
+ghost use Rattle.std.specs.Prelude.{◌≡◌, None};
 ghost use Rattle.rb_rules.specs.Memory.{hung, root_hung, place_of, AtSpot};
 ghost use Rattle.rb_arena.specs.Nodes.{KeepsCount, Lives, LosesOne};
 ghost use Rattle.rb_arena.specs.Placing.{IsThere};
-ghost use Rattle.rb_arena.specs.Leaving.{NoChild, OneChild, IsEmptied, LeafHangsNoMore};
+ghost use Rattle.rb_arena.specs.Leaving.{NoChild, OneChild, IsEmptied};
 ghost use Rattle.rb_arena.specs.Leaving.{StoresItem, StoresItemBeside, StoresBoth};
 ghost use Rattle.rb_arena.specs.Leaving.{StandsWoven, StandsValued, IsShown, IsKept};
 ghost use Rattle.rb_arena.specs.Leaving.{Settles, StillLists, Leaves, Loosens};
@@ -19,9 +19,9 @@ use raw_arena::NodeId;
 use rb_rules::{Data, Side, Weave};
 
 /// What a node leaves where it goes from a tree: an empty place, and whether a red node is missing there.
-pub(crate) struct Vacancy {
-    pub(crate) at: Place,
-    pub(crate) red: bool,
+struct Vacancy {
+    at: Place,
+    red: bool,
 }
 
 /// Renews the sums above an empty place, and closes the gap that a black leaf has left there.
@@ -38,12 +38,13 @@ fn settle<W: Weave>(tree: &mut Links<Data<W::Item, W::Sum, W::By>>, at: Place, r
     close::<W>(tree, at);
 }
 
-/// A leaf hangs in the tree no more, and keeps its slot. The tree's sums may be wrong.
-#[tactic(auto, using(crate::proofs::Leaving::cutting_leaf))]
-pub(crate) fn cut_leaf<D: Copy>(tree: &mut Links<D>, id: NodeId) -> Vacancy
+/// A leaf leaves the tree, and keeps its slot. The tree's sums may be wrong.
+#[tactic(auto, using(crate::proofs::Leaving::leaf_unlinks))]
+fn unlink_leaf<W: Weave>(tree: &mut Links<Data<W::Item, W::Sum, W::By>>, id: NodeId) -> Vacancy
     requires stands { IsThere tree.old id }
     requires leaf { NoChild tree.old.nodes.live id }
-    ensures gone { LeafHangsNoMore tree.old tree.new id result.at result.red }
+    requires item { StoresItem W.Weave tree.old id }
+    ensures unlinked { Unlinks W.Weave tree.old tree.new id result.at result.red }
     ensures live { Lives tree.new.nodes id }
     ensures count { KeepsCount tree.old.nodes tree.new.nodes }
 {
@@ -56,22 +57,9 @@ pub(crate) fn cut_leaf<D: Copy>(tree: &mut Links<D>, id: NodeId) -> Vacancy
     Vacancy { at: gap, red }
 }
 
-/// The same, by the items that are left.
-#[tactic(auto, using(crate::proofs::Leaving::leaf_unlinks))]
-fn unlink_leaf<W: Weave>(tree: &mut Links<Data<W::Item, W::Sum, W::By>>, id: NodeId) -> Vacancy
-    requires stands { IsThere tree.old id }
-    requires leaf { NoChild tree.old.nodes.live id }
-    requires item { StoresItem W.Weave tree.old id }
-    ensures unlinked { Unlinks W.Weave tree.old tree.new id result.at result.red }
-    ensures live { Lives tree.new.nodes id }
-    ensures count { KeepsCount tree.old.nodes tree.new.nodes }
-{
-    cut_leaf(tree, id)
-}
-
 /// Makes a leaf of a node with one child at most.
 #[tactic(auto, using(crate::proofs::Leaving::to_leaf))]
-pub(crate) fn to_leaf<W: Weave>(tree: &mut Links<Data<W::Item, W::Sum, W::By>>, id: NodeId)
+fn to_leaf<W: Weave>(tree: &mut Links<Data<W::Item, W::Sum, W::By>>, id: NodeId)
     requires child { OneChild tree.old.nodes.live id }
     requires item { StoresItem W.Weave tree.old id }
     ensures leaf { NoChild tree.new.nodes.live id }

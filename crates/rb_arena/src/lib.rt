@@ -9,7 +9,6 @@ mod leave;
 mod level;
 mod links;
 mod mend;
-mod merge;
 mod rewrite;
 mod shift;
 mod sums;

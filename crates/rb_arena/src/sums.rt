@@ -1,13 +1,11 @@
 //! A node's data: its sums, and what a turn makes of them.
 ghost use Rattle.std.specs.Prelude.{◌≡◌};
-ghost use Rattle.rb_arena.specs.Ends.{StandsLow};
-ghost use Rattle.rb_arena.specs.Nodes.{KeepsCount, LivesIf, Rewritten};
+ghost use Rattle.rb_arena.specs.Nodes.{KeepsCount, LivesIf};
 ghost use Rattle.rb_arena.specs.Relative.{CanSumOver, CanTurnOver, CanTurnNode, Turns};
 ghost use Rattle.rb_arena.specs.Relative.{IsLowered, IsRaised, IsSummed};
-ghost use Rattle.rb_arena.specs.RbTree.{with_item};
 ghost use Rattle.rb_rules.specs.Woven.{whole_in};
 
-use crate::links::{Links, node_of, read, rewrite, turn};
+use crate::links::{Links, node_of, read, turn};
 use raw_arena::{Arena, NodeId};
 use rb_rules::{Data, Packed, Side, Weave};
 
@@ -105,25 +103,4 @@ pub(crate) fn turn_node<W: Weave>(
     let far = whole::<W>(&tree.nodes, upper.child(side.other()));
     let (low, high) = turned_data::<W>(side, &upper.data, &lower.data, mid, far);
     turn(tree, id, side, low, high);
-}
-
-/// Writes a node's item, and nothing else.
-#[tactic(auto, unfolding(crate::specs::Ends::StandsLow, crate::specs::Nodes::Rewrites))]
-pub(crate) fn replace_item<W: Weave>(
-    tree: &mut Links<Data<W::Item, W::Sum, W::By>>,
-    id: NodeId,
-    item: W::Item,
-)
-    requires { StandsLow tree.old id }
-    ensures made { Rewritten tree.old tree.new id (λ s. with_item s.datum item) }
-    ensures count { KeepsCount tree.old.nodes tree.new.nodes }
-{
-    let slot = node_of(tree, id);
-    let datum = Data {
-        item,
-        delta: slot.data.delta,
-        before: slot.data.before,
-        whole: slot.data.whole,
-    };
-    rewrite(tree, id, slot.red, datum);
 }

@@ -104,16 +104,6 @@ fn rise_on<D: Copy, L>(
     None
 }
 
-/// The nearest node above that one that has it on that side. It counts no step.
-#[tactic(auto, using(crate::proofs::Walks::parent_read), unfolding(crate::specs::Ends::StandsLow))]
-pub(crate) fn above_on<D: Copy>(tree: &Links<D>, id: NodeId, side: Side) -> Option<NodeId>
-    requires { StandsLow tree.now id }
-    ensures { IsAboveOn tree.now id side result }
-{
-    let parent = node_of(tree, id).parent;
-    rise_on(tree, id, parent, side, &mut Steps::new())
-}
-
 /// The node right beside that one in the order of the tree, on that side, from the slot that was read of that one. Each node that is
 /// visited counts as a step.
 #[tactic(auto, using(crate::proofs::Walks::sideways), unfolding(crate::specs::Ends::StandsLow))]

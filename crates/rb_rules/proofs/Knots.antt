@@ -76,9 +76,6 @@ module _ {X S B : Type 0} (w : Weaving X S B) (L : Lawful w) (is_near : B → Ty
       numbers : ◌≡◌ {A = Data X S B × Data X S B × S × S} (sp.datum, d, whole_at w mid, whole_at w (below (other s) sp)) (n.«data», l.«data», mid_sum, far_sum)
       numbers = λ k. (sym datum_is k, sym low_datum k, sym mid_is k, sym far_is k)
 
-      acc : B
-      acc = shift_at w sp.hole
-
       woven_here : Woven w is_near (shift_at w sp.hole) (forked s sp.red i sp.datum (forked s b j d out mid) (below (other s) sp))
       woven_here = subst (Woven w is_near (shift_at w sp.hole)) tree_is (woven_at w L is_near sp.hole (here sp i) wv)
 

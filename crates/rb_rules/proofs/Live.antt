@@ -57,10 +57,6 @@ module _ {D : Type 0} where
   len_adopted m None p = refl
   len_adopted m (Some i) p = len_updated m i _ (map.get m i) refl
 
-  pub len_hung : (m : map.FinMap nat_cmp (Slot D)) (at : Option (ℕ × Side)) (o : Option ℕ) → map.len (hung m at o) ≡ map.len m
-  len_hung m None o = refl
-  len_hung m (Some at) o = len_updated m at.0 _ (map.get m at.0) refl
-
   -- the links of a slot are the names of the subtrees
   pub child-sided : (s : Side) (p x y : Option ℕ) (c : Bool) (d : D) → (child s (sided s p x y c d) ≡ x) × (child (other s) (sided s p x y c d) ≡ y)
   child-sided Left p x y c d = (refl, refl)

@@ -1,5 +1,4 @@
 pub mod Colours
-mod Examples
 pub mod Memory
 pub mod Packing
 pub mod Rewriting

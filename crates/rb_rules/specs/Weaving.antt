@@ -52,10 +52,6 @@ module _ {X S B : Type 0} (w : Weaving X S B) where
     whole = n.whole;
   }
 
-  -- whatever stands before and behind the part old of the whole, the sum is that with new in its place
-  abbrev pub Exchanges : S → S → S → S → Type 0
-  Exchanges whole old new sum = (l r : S) → whole ≡ w.join l (w.join old r) → sum ≡ w.join l (w.join new r)
-
 module _ {X S B : Type 0} (w : Weaving X S B) (is_near : B → Type 0) where
   -- A tree keeps numbers relative to a path. What is computed of them is the relative form of a value: some shift that a path may
   -- have makes a value of it.
@@ -68,11 +64,6 @@ module _ {X S B : Type 0} (w : Weaving X S B) (is_near : B → Type 0) where
   -- a shift between two that a path may have
   abbrev pub HeldBy : B → Type 0
   HeldBy b = (acc : B) × is_near acc × is_near (w.plus acc b)
-
-  -- old is a part of the whole, and with new in its place the whole is held
-  unfoldable pub CanExchange : (S → Type 0) → (S → Type 0) → S → S → S → Type 0
-  CanExchange is_sum is_value whole old new =
-      (l r : S) × (whole ≡ w.join l (w.join old r)) × HeldSum is_sum is_value (w.join l (w.join new r))
 
 -- what sums of items always meet
 pub record Sums {X S B : Type 0} (w : Weaving X S B) (is_item : X → Type 0) (is_sum : S → Type 0) : Type 0 where

@@ -1,7 +1,6 @@
 //! What the nodes of a tree keep.
 ghost use Rattle.std.specs.Prelude.{◌≡◌, Option, Some, IfSome, IsSome, IsTrue};
 ghost use Rattle.rb_rules.specs.Weaving.{Weaving, Lawful, HeldItem, HeldSum, HeldBy, Sums, Widens};
-ghost use Rattle.rb_rules.specs.Weaving.{CanExchange, Exchanges};
 
 /// Where a search goes from a node.
 #[derive(Clone, Copy, PartialEq, Eq, Debug)]
@@ -66,11 +65,6 @@ pub trait Weave {
     /// Whether two sums are the same. Where it tells so, a walk up ends.
     fn same(first: Self::Sum, second: Self::Sum) -> bool
         ensures { IsTrue result → first ≡ second };
-
-    /// What becomes of a whole when one of its parts does, where that can be told without the other parts; else None.
-    fn exchanged(whole: Self::Sum, old: Self::Sum, new: Self::Sum) -> Option<Self::Sum>
-        requires { CanExchange weaving is_near is_sum is_value whole old new }
-        ensures { IfSome result (λ sum. Exchanges weaving whole old new sum) };
 
     fn still() -> Self::By
         ensures { result ≡ weaving.still };

@@ -1,4 +1,4 @@
--- What clap is told of the command line, and what is made of its answer.
+-- The command line as clap gets it, and the command from clap's answer.
 use Rattle.std.specs.Prelude.{ℕ, true, List, Option, Some, None, codes, option_and_then, if◌then◌else◌}
 use Rattle.std.specs.Str.{bytes_eq}
 use Rattle.clap.specs.Walk.{Row, Rule, Text, one_of}
@@ -9,14 +9,14 @@ use Rattle.script_runner.specs.Words.{most_seed, number_in, play_command}
 use Rattle.script_runner.specs.declared.words.Words.{Words}
 use Rattle.script_runner.specs.declared.words.Words.TheVariants.{Run, NoCommand}
 
--- a number that is wanted
+-- a required number
 abbrev pub number_rule : Text → Rule
 number_rule id = record (new_rule id) { required = true; parser = Some (vp.Unsigned 0 18446744073709551615) }
 
 abbrev pub play_line : App
 play_line = with_rule (with_rule (new_app (codes "play")) (number_rule (codes "COUNT"))) (number_rule (codes "SEED"))
 
--- the program, with no help of clap's
+-- the program, without clap's help
 abbrev pub program_line : App
 program_line = record (new_app (codes "textmodel")) {
   top = record (new_shape (codes "textmodel")) {
@@ -31,7 +31,7 @@ program_line = record (new_app (codes "textmodel")) {
 abbrev pub command_line : App
 command_line = with_subcommand (with_subcommand program_line (new_shape (codes "run"))) play_line.top
 
--- the number, at most so much, that the argument spells
+-- the number that the argument spells; None if it is invalid or above `most`
 abbrev pub number_at : ℕ → Text → List Row → Option ℕ
 number_at most id rows = option_and_then (number_in most) (one_of id rows)
 

@@ -1,4 +1,4 @@
--- What playing the script of a count and a seed does, by the status that the program ends with.
+-- What `play COUNT SEED` does, by the exit status of the program.
 use Rattle.std.specs.Prelude.{◌≡◌, ℕ, ◌^◌, ◌%◌, ◌<◌, List, ◌++◌, length, sum, codes, decimal, ⊤}
 use Rattle.document_rules.specs.Document.{flat_line_count}
 use Rattle.script_streams.specs.Streams.{SinkState, TakenWhole, Cut}
@@ -25,7 +25,7 @@ summary_line count refused units lines bytes total =
 abbrev pub line_of : Summary → List ℕ
 line_of s = summary_line s.count s.refused s.units s.lines s.bytes s.total
 
--- The lines of the script were answered one by one, none by `! memory`; and these are the numbers of that.
+-- The lines of the script were answered one by one, none with `! memory`, and the numbers are those of the replies and the text.
 pub record SumsUp (summary : Summary) (count seed : ℕ) : Type 0 where
   pub replies : List (List ℕ)
   pub end : FlatSession
@@ -41,7 +41,7 @@ pub record SumsUp (summary : Summary) (count seed : ℕ) : Type 0 where
   pub bytes_are : summary.bytes ≡ length (written replies) % 2 ^ 32
   pub total_is : summary.total ≡ sum (written replies) % 2 ^ 32
 
--- the line was written whole, and the status tells whether a reply began with `!`; or the write failed after a front of it
+-- the line was written whole, and the status tells whether a reply began with `!`; or the write failed after a part of the line
 abbrev pub Shows : Status → Summary → SinkState → SinkState → Type 0
 Shows status.Answered summary out out' = (summary.refused ≡ 0) × TakenWhole out out' (line_of summary)
 Shows status.Refused summary out out' = (0 < summary.refused) × TakenWhole out out' (line_of summary)
@@ -57,14 +57,14 @@ Plays status.Answered count seed out out' = (s : Summary) × SumsUp s count seed
 -- every line of the script was answered, and some reply begins with `!`
 Plays status.Refused count seed out out' = (s : Summary) × SumsUp s count seed × Shows status.Refused s out out'
 Plays status.WriteFault count seed out out' = (s : Summary) × SumsUp s count seed × Shows status.WriteFault s out out'
--- there was no memory to begin with, or for some reply, and nothing was written
+-- there was no memory to begin, or for some reply, and nothing was written
 Plays status.Memory count seed out out' = out' ≡ out
--- the words are a command, and the script is read and answered without a fault
+-- does not happen: the arguments are a command, and the script is read and answered without a fault
 Plays status.Usage count seed out out' = ⊥
 Plays status.ReadFault count seed out out' = ⊥
 Plays status.TooLong count seed out out' = ⊥
 
--- the same by the number of the status
+-- `Plays` by the number of the status
 abbrev pub EndsPlay : ℕ → ℕ → ℕ → SinkState → SinkState → Type 0
 EndsPlay number count seed out out' = EndsWith number (λ status. Plays status count seed out out')
 

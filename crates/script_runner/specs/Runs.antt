@@ -1,4 +1,4 @@
--- What a run of the program does, by the status that it ends with.
+-- What a run of the program does, by its exit status.
 use Rattle.std.specs.Prelude.{◌≡◌, ℕ, suc, ◌+◌, ◌^◌, ◌<◌, ◌≤◌, ◌⊎◌, Bool, true, false, if◌then◌else◌, List, [], ◌∷◌, ◌++◌, length, count_by, Some, codes}
 use Rattle.std.specs.List.{list_any}
 use Rattle.std.specs.Str.{bytes_eq}
@@ -14,7 +14,7 @@ use Rattle.session_rules.specs.Script.{whole_lines, all_lines, written, is_refus
 abbrev pub usage_line : List ℕ
 usage_line = codes "usage: textmodel run | textmodel play COUNT SEED\n"
 
--- a script has fewer bytes than these
+-- a script has fewer bytes than this
 abbrev pub most_script_bytes : ℕ
 most_script_bytes = 2 ^ 40
 
@@ -28,12 +28,12 @@ number_of status.ReadFault = 4
 number_of status.WriteFault = 5
 number_of status.TooLong = 6
 
--- the number is that of a status of which this holds
+-- the number of a status of which `Holds` holds
 abbrev pub EndsWith : ℕ → (Status → Type 0) → Type 0
 EndsWith number Holds = (s : Status) × (number ≡ number_of s) × Holds s
 
--- The words are no command: the usage line was written, or a front of it where the write failed; or nothing where there
--- was no memory to read the words.
+-- The arguments are no command: the usage line was written, or only a part of it if the write failed, or nothing if there was no memory to
+-- read the arguments.
 abbrev pub ShowsUsage : Status → SinkState → SinkState → Type 0
 ShowsUsage status.Usage err err' = TakenWhole err err' usage_line
 ShowsUsage status.WriteFault err err' = Cut err err' usage_line
@@ -43,7 +43,7 @@ ShowsUsage status.Refused err err' = ⊥
 ShowsUsage status.ReadFault err err' = ⊥
 ShowsUsage status.TooLong err err' = ⊥
 
--- what was taken grew by the replies to all lines of the script, and the status tells whether one begins with `!`
+-- the written bytes are the replies to all lines of the script, and the status tells whether one begins with `!`
 pub record IsAnswered (script before after : List ℕ) (number : ℕ) : Type 0 where
   pub replies : List (List ℕ)
   pub end : FlatSession
@@ -51,7 +51,7 @@ pub record IsAnswered (script before after : List ℕ) (number : ℕ) : Type 0 w
   pub grown : after ≡ before ++ written replies
   pub status : number ≡ (if list_any is_refused replies then 1 else 0)
 
--- The replies to all lines of the script were written, and a sink that told what it took tells them too where it has room.
+-- The replies to all lines of the script were written. A sink that told its bytes before tells these too if it has room for them.
 pub record IsTold (script before : List ℕ) (out out' : SinkState) (number : ℕ) : Type 0 where
   pub replies : List (List ℕ)
   pub end : FlatSession
@@ -60,12 +60,12 @@ pub record IsTold (script before : List ℕ) (out out' : SinkState) (number : �
   pub told : length before + length (written replies) ≤ out.room
       → out'.taken ≡ Some (before ++ written replies)
 
--- where the source tells its script, and the sink what it took before and after
+-- if the source tells its script, and the sink its bytes before and after
 abbrev pub IsAnsweredFrom : SourceState → SinkState → SinkState → ℕ → Type 0
 IsAnsweredFrom src out out' number = (script before after : List ℕ)
     → src.left ≡ Some script → out.taken ≡ Some before → out'.taken ≡ Some after → IsAnswered script before after number
 
--- where the source tells its script, and the sink what it took before
+-- if the source tells its script, and the sink its bytes before
 abbrev pub IsToldFrom : SourceState → SinkState → SinkState → ℕ → Type 0
 IsToldFrom src out out' number = (script before : List ℕ)
     → src.left ≡ Some script → out.taken ≡ Some before → IsTold script before out out' number
@@ -78,12 +78,12 @@ ReadsWell {S} state = (s : S) → (state s).faults ≡ 0
 abbrev pub WritesWell : {K : Type 0} → (K → SinkState) → Type 0
 WritesWell {K} state = (k : K) → (state k).faults ≡ 0
 
--- a script within the limit is answered, unless there is no memory to begin with
+-- a script within the limit is answered, unless there is no memory to begin
 abbrev pub IsAnsweredWithin : SourceState → ℕ → Type 0
 IsAnsweredWithin src number = (script : List ℕ) → src.left ≡ Some script → length script < most_script_bytes
     → (number ≤ 1) ⊎ (number ≡ 3)
 
--- ---- what came of a script, for streams that tell and for others
+-- ---- what was written for a script, by streams that tell and by others
 
 -- how many replies begin with `!`
 abbrev pub refusals : List (List ℕ) → ℕ
@@ -93,25 +93,25 @@ refusals replies = count_by is_refused replies
 abbrev pub memory_refusals : List (List ℕ) → ℕ
 memory_refusals replies = count_by (bytes_eq memory_reply) replies
 
--- a count that went up by so much, or stands at its greatest value
+-- a count that went up by `by`, or has its greatest value
 abbrev pub RoseBy : ℕ → ℕ → ℕ → Type 0
 RoseBy old by new = (new ≡ old + by) ⊎ (new ≡ greatest_count)
 
--- the lines of what was read: an unfinished last one is a line where the end was seen
+-- the lines that were read: an unfinished last line counts if the end was seen
 abbrev pub lines_read : Bool → List ℕ → List (List ℕ)
 lines_read ended script = if ended then all_lines script else whole_lines script
 
--- which replies answer which lines, from one state to another: `Transcript` where the states are flat
+-- a relation of lines and replies, from one state to another: `Transcript` for flat states
 abbrev pub Answering : Type 0 → Type 1
 Answering E = E → List (List ℕ) → List (List ℕ) → E → Type 0
 
--- these bytes are whole replies, and answer the lines one by one
+-- the bytes are whole replies that answer the lines one by one
 pub record WholeReplies {E : Type 0} (Answers : Answering E) (start : E) (lines : List (List ℕ)) (bytes : List ℕ) (end : E) : Type 0 where
   pub replies : List (List ℕ)
   pub answers : Answers start lines replies end
   pub bytes_are : bytes ≡ written replies
 
--- these bytes are whole replies to the first lines, and a front of the reply to the next one
+-- the bytes are whole replies to the first lines, and a part of the reply to the next one
 pub record CutReplies {E : Type 0} (Answers : Answering E) (start : E) (lines : List (List ℕ)) (bytes : List ℕ) (end : E) : Type 0 where
   pub done : List (List ℕ)
   pub line : List ℕ
@@ -126,18 +126,18 @@ pub record CutReplies {E : Type 0} (Answers : Answering E) (start : E) (lines : 
   pub starts : StartsWith reply front
   pub bytes_are : bytes ≡ written replies ++ front
 
--- what was written for the script read, by how serving it ended
+-- the bytes written for the script, by how serving it ended
 abbrev pub WritesBy : {E : Type 0} → Answering E → Served → E → Bool → List ℕ → List ℕ → E → Type 0
--- the replies to all lines, of which so many begin with `!` and so many are `! memory`
+-- the replies to all lines, with the numbers of those that begin with `!` and that are `! memory`
 WritesBy Answers (Ended refused memory) start ended script bytes end = (whole : WholeReplies Answers start (all_lines script) bytes end)
     × (refused ≡ refusals whole.replies) × (memory ≡ memory_refusals whole.replies)
--- the replies to the lines that LF ends
+-- the replies to the lines that end with LF
 WritesBy Answers ReadFault start ended script bytes end = WholeReplies Answers start (whole_lines script) bytes end
 WritesBy Answers TooLong start ended script bytes end = WholeReplies Answers start (whole_lines script) bytes end
--- some whole replies, and a front of the next one
+-- some whole replies, and a part of the next one
 WritesBy Answers WriteFault start ended script bytes end = CutReplies Answers start (lines_read ended script) bytes end
 
--- how many bytes were read, of at most so many, and how the source and the sink are left
+-- how many bytes were read, at most `most`, and the source and the sink afterwards
 abbrev pub LeavesBy : Served → ℕ → ℕ → SourceState → SourceState → SinkState → SinkState → Type 0
 -- the end was seen before the limit, and no call failed
 LeavesBy (Ended refused memory) most read src src' out out' =
@@ -147,11 +147,11 @@ LeavesBy ReadFault most read src src' out out' =
     (read < most) × (src'.ended ≡ false) × Rose src.faults src'.faults × (out'.faults ≡ out.faults)
 -- a write failed
 LeavesBy WriteFault most read src src' out out' = (read ≤ most) × (src'.faults ≡ src.faults) × Rose out.faults out'.faults
--- as many bytes were read as may be, and the end was not seen
+-- the limit of bytes was read, and the end was not seen
 LeavesBy TooLong most read src src' out out' =
     (read ≡ most) × (0 < most → src'.ended ≡ false) × (src'.faults ≡ src.faults) × (out'.faults ≡ out.faults)
 
--- what serving a script did, by how it ended: which bytes came off the source, at most so many, and which went to the sink
+-- the bytes read from the source, at most `most`, and those written to the sink, by how serving ended
 pub record ServesBy {E : Type 0} (Answers : Answering E) (served : Served) (most : ℕ) (start end : E)
     (src src' : SourceState) (out out' : SinkState) : Type 0 where
   pub script : List ℕ
@@ -162,7 +162,7 @@ pub record ServesBy {E : Type 0} (Answers : Answering E) (served : Served) (most
   pub wrote : Wrote out out' bytes
   pub leaves : LeavesBy served most (length script) src src' out out'
 
--- the same of flat documents, from new ones on
+-- `ServesBy` for flat documents, from new ones on
 abbrev pub ServesNew : Served → SourceState → SourceState → SinkState → SinkState → Type 0
 ServesNew served src src' out out' = (end : FlatSession) × ServesBy Transcript served most_script_bytes new_session end src src' out out'
 
@@ -171,14 +171,14 @@ abbrev pub Runs : Status → SourceState → SourceState → SinkState → SinkS
 Runs status.Answered src src' out out' = (memory : ℕ) × ServesNew (Ended 0 memory) src src' out out'
 -- every line of the script was answered, and some reply begins with `!`
 Runs status.Refused src src' out out' = (more memory : ℕ) × ServesNew (Ended (suc more) memory) src src' out out'
--- there was no memory to begin with, and nothing was read or written
+-- there was no memory to begin, and nothing was read or written
 Runs status.Memory src src' out out' = (src' ≡ src) × (out' ≡ out)
 Runs status.ReadFault src src' out out' = ServesNew ReadFault src src' out out'
 Runs status.WriteFault src src' out out' = ServesNew WriteFault src src' out out'
 Runs status.TooLong src src' out out' = ServesNew TooLong src src' out out'
--- the words `run` are a command
+-- does not happen: `run` is a command
 Runs status.Usage src src' out out' = ⊥
 
--- the same by the number of the status
+-- `Runs` by the number of the status
 abbrev pub EndsRun : ℕ → SourceState → SourceState → SinkState → SinkState → Type 0
 EndsRun number src src' out out' = EndsWith number (λ status. Runs status src src' out out')

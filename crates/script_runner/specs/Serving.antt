@@ -1,4 +1,4 @@
--- What the loop over a script comes to.
+-- The result of the loop over a script.
 use Rattle.std.specs.Prelude.{ℕ, nat_lt, if◌then◌else◌, List, ◌++◌}
 use Rattle.script_streams.specs.Streams.{SourceState, SinkState, TakenWhole}
 use Rattle.script_runner.specs.declared.running.Status.{Status}
@@ -12,20 +12,20 @@ use Rattle.script_runner.specs.Runs.{ServesBy}
 use Rattle.script_runner.specs.Progress.{Broken, Counted, Led}
 use Rattle.script_runner.specs.declared.serving.Progress.{Progress}
 
--- the status after serving a script: whether some reply begins with `!`, or which fault came
+-- the status after serving a script: whether some reply begins with `!`, or the fault
 abbrev pub status_after : Served → Status
 status_after (Ended refused memory) = if nat_lt 0 refused then status.Refused else status.Answered
 status_after ReadFault = status.ReadFault
 status_after WriteFault = status.WriteFault
 status_after TooLong = status.TooLong
 
--- what serving a script did to a session, whichever flat one it represents at the start
+-- serving a script to a session, for any flat session that it represents
 abbrev pub Serves : Served → ℕ → Session → Session → SourceState → SourceState → SinkState → SinkState → Type 0
 Serves served most start end src src' out out' = ServesBy Replied served most start end src src' out out'
 
 -- ---- the end of the script
 
--- Whatever was read and written before, all of its lines are answered now.
+-- All lines of what was read are answered, for anything read and written before.
 pub record Finished (state : Session) (progress : Progress)
     (state' : Session) (out out' : SinkState) (refused memory : ℕ) : Type 0 where
   pub added : List ℕ

@@ -1,4 +1,4 @@
-//! Runs a script over documents: the program without its streams.
+//! Runs a script on a session: the program without its streams.
 #![tactic(auto)]
 
 mod line;

@@ -7,11 +7,11 @@ ghost use Rattle.script_runner.specs.Progress.{IsLineSoFar};
 use sessions::{MOST_LINE_BYTES, is_blank};
 use std::alloc::Global;
 
-/// What has come of a line. Its bytes are kept up to the limit, where there is memory for them.
+/// The part of a line that was read so far. Its bytes are kept up to the limit, unless memory is short.
 #[derive(Drop)]
 pub(crate) struct PartialLine {
     pub bytes: Vec<u8>,
-    /// How many bytes have come, but at most one above the limit.
+    /// The number of bytes so far, at most one above the limit.
     pub len: usize,
     pub is_blank: bool,
     pub is_lost: bool,
@@ -29,7 +29,7 @@ impl PartialLine {
         }
     }
 
-    /// More bytes of the line, with no LF among them.
+    /// Appends bytes of the line. There is no LF among them.
     pub fn extend(&mut self, bytes: &[u8])
         ensures { (line : List ℕ) → IsLineSoFar self.old line
             → IsLineSoFar self.new (line ++ bytes.now) }
@@ -52,7 +52,7 @@ impl PartialLine {
         self.len > MOST_LINE_BYTES
     }
 
-    /// The next line begins. What room there is for bytes stays.
+    /// Begins the next line. Keeps the memory.
     pub fn clear(&mut self)
         ensures { IsLineSoFar self.new [] }
     {

@@ -1,4 +1,4 @@
-//! The script made from a count and a seed, served to a sink that keeps a tally of the replies.
+//! Plays the script made from a count and a seed, and sums up the replies.
 
 ghost use Rattle.std.specs.Prelude.{◌≡◌, ◌≤◌, ◌<◌, ◌+◌, ◌++◌, length, IfSome};
 ghost use Rattle.arrayvec.specs.ArrayVec.{array_vec_len};
@@ -14,24 +14,24 @@ use script_streams::{Sink, write_whole};
 use sessions::Session;
 use std::alloc::Global;
 
-/// What came of a script that was played, in numbers.
+/// The summary of a played script.
 #[derive(Clone, Copy, PartialEq, Eq, Debug)]
 pub(crate) struct Summary {
-    /// How many lines the script had.
+    /// The number of lines of the script.
     pub count: u32,
-    /// How many replies begin with `!`.
+    /// The number of replies that begin with `!`.
     pub refused: u64,
-    /// The units of the text of document 0 at the end.
+    /// The length of document 0 at the end, in units.
     pub units: u64,
-    /// The lines of that text.
+    /// The number of its lines.
     pub lines: u64,
-    /// How many bytes the replies had, modulo 2^32.
+    /// The number of bytes of all replies, modulo 2^32.
     pub bytes: u32,
     /// The sum of those bytes, modulo 2^32.
     pub total: u32,
 }
 
-/// Serves the script to new documents, and writes one line that sums it up. Writes nothing where memory was wanting.
+/// Runs the script on new documents and writes one line of summary. Writes nothing if memory was short.
 pub(crate) fn play<K: Sink>(alloc: Global, count: u32, seed: u64, out: &mut K) -> Status
     requires { IsCount count }
     ensures { Plays result count seed (K.state out.old) (K.state out.new) }
@@ -45,7 +45,7 @@ pub(crate) fn play<K: Sink>(alloc: Global, count: u32, seed: u64, out: &mut K) -
     show(&summary, out)
 }
 
-/// Serves the script to new documents, or answers `None` where there was no memory for them or a reply was `! memory`.
+/// Runs the script on new documents. `None` if there is no memory for them or a reply is `! memory`.
 fn sum_up(alloc: Global, count: u32, seed: u64, buf: &mut [u8]) -> Option<Summary>
     requires count { IsCount count }
     requires room { 0 < length buf.old }
@@ -69,7 +69,7 @@ fn sum_up(alloc: Global, count: u32, seed: u64, buf: &mut [u8]) -> Option<Summar
     })
 }
 
-/// How many replies begin with `!`, or `None` where one of them is `! memory`.
+/// Returns how many replies begin with `!`. `None` if one of them is `! memory`.
 fn refused_of(served: Served) -> Option<u64>
     requires { HasEnded served }
     ensures { IfSome result (λ refused. served ≡ Served.Ended refused 0) }
@@ -93,7 +93,7 @@ fn show<K: Sink>(summary: &Summary, out: &mut K) -> Status
     }
 }
 
-/// `commands C refused R units U lines L bytes B sum S` and LF.
+/// Returns `commands C refused R units U lines L bytes B sum S` and LF.
 fn line_of(summary: &Summary) -> ArrayVec<u8, 192>
     ensures { result.items ≡ line_of summary.now }
 {
@@ -108,7 +108,7 @@ fn line_of(summary: &Summary) -> ArrayVec<u8, 192>
     line
 }
 
-/// Puts a word and its number behind what is there.
+/// Appends a word and its number.
 fn push_part(line: &mut ArrayVec<u8, 192>, word: &[u8], number: u64)
     requires { array_vec_len line.old + length word.now + 20 ≤ 192 }
     ensures bytes { line.new.items ≡ line.old.items ++ part word.now number }

@@ -1,4 +1,4 @@
-//! What comes of a line that was read.
+//! Answers the line that was read.
 
 ghost use Rattle.std.specs.Prelude.{◌++◌, ℕ, List};
 ghost use Rattle.script_runner.specs.Progress.{IsLineSoFar};
@@ -10,7 +10,7 @@ use crate::line::PartialLine;
 use script_lines::Refusal;
 use sessions::{Outcome, Refused, Reply, Session};
 
-/// Answers the line that these bytes end. One that lies whole in them is read where it lies.
+/// Answers the line that ends with these bytes. Does not copy them if they are the whole line.
 pub(crate) fn reply_at_end(session: &mut Session, line: &mut PartialLine, end: &[u8]) -> Outcome
     ensures turn { (bytes : List ℕ) → IsLineSoFar line.old bytes
         → Turns session.old (bytes ++ end.now) (bytes_of_outcome result) session.new }
@@ -23,7 +23,7 @@ pub(crate) fn reply_at_end(session: &mut Session, line: &mut PartialLine, end: &
     reply_to_kept(session, line)
 }
 
-/// Answers the line as far as its bytes are known.
+/// Answers the line from the bytes that were kept.
 fn reply_to_kept(session: &mut Session, line: &PartialLine) -> Outcome
     ensures turn { (bytes : List ℕ) → IsLineSoFar line.now bytes
         → Turns session.old bytes (bytes_of_outcome result) session.new }

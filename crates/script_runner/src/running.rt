@@ -1,4 +1,4 @@
-//! What a run of the program does.
+//! Runs the program.
 
 ghost use Rattle.std.specs.Prelude.{◌≡◌, ◌≢◌, ◌≤◌, ◌⊎◌, ℕ, List, vec_len, IfOk};
 ghost use Rattle.session_rules.specs.Session.{FlatSession};
@@ -17,24 +17,24 @@ use script_streams::{Sink, Source, write_whole};
 use sessions::Session;
 use std::alloc::{AllocError, Global};
 
-/// The most bytes of a script.
+/// The greatest length of a script in bytes.
 pub(crate) const MOST_SCRIPT_BYTES: u64 = 0x100_0000_0000;
 
-/// How many bytes are read at once.
+/// The number of bytes that one read asks for.
 const READ_BYTES: usize = 0x1_0000;
 
 const USAGE: &str = "usage: textmodel run | textmodel play COUNT SEED\n";
 
-/// The status that the program ends with.
+/// The exit status of the program.
 #[derive(Clone, Copy)]
 pub(crate) enum Status {
-    /// The script was read to its end, and every reply was written; none begins with `!`.
+    /// The whole script was read and every reply written. No reply begins with `!`.
     Answered = 0,
-    /// The same, and some reply begins with `!`.
+    /// The same, but some reply begins with `!`.
     Refused = 1,
-    /// The words are no command.
+    /// The arguments are no command.
     Usage = 2,
-    /// There was no memory to read the words or to begin with.
+    /// There was no memory to read the arguments or to begin.
     Memory = 3,
     ReadFault = 4,
     WriteFault = 5,
@@ -42,14 +42,14 @@ pub(crate) enum Status {
     TooLong = 6,
 }
 
-/// Does what the words say, and gives the status to end with: 0 or 1 where the script was answered, 1 where some line
-/// was refused; 2 where the words are no command, with the usage line on `err`; 3 where there was no memory to read
-/// the words or to begin with, and nothing was read or written; 4 where a read and 5 where a write failed; 6 where the
-/// script is longer than the limit of 2^40 - 1 bytes. The words come without the program's name.
+/// Does what the arguments say and returns the exit status: 0 if the script was answered, 1 if it was and some line was refused; 2 if the
+/// arguments are no command, with the usage line on `err`; 3 if there was no memory to read the arguments or to begin, and nothing was read
+/// or written; 4 if a read and 5 if a write failed; 6 if the script is longer than the limit of 2^40 - 1 bytes. The arguments come without
+/// the program's name.
 ///
-/// `run` answers the script of `src` on `out`. `play COUNT SEED` answers the script that the two numbers make, with
-/// at most [`MOST_LINES`](script_play::MOST_LINES) lines, and writes one line on `out` that sums the replies up; 3 also
-/// where a reply is `! memory`, and nothing is written then; never 4 nor 6.
+/// `run` answers the script of `src` on `out`. `play COUNT SEED` answers the script made from the two numbers, with at most
+/// [`MOST_LINES`](script_play::MOST_LINES) lines, and writes one line of summary on `out`. It also returns 3 if a reply is `! memory`, and
+/// then writes nothing. It never returns 4 or 6.
 #[tactic(auto, using(session_rules::proofs::DecidedLemmas::decided, session_rules::proofs::DecidedLemmas::never_memory, crate::proofs::ObeyLemmas::for_run, crate::proofs::ObeyLemmas::for_play, crate::proofs::ObeyLemmas::for_none))]
 pub fn run_words<S: Source, K: Sink, E: Sink>(
     alloc: Global,
@@ -58,21 +58,21 @@ pub fn run_words<S: Source, K: Sink, E: Sink>(
     out: &mut K,
     err: &mut E,
 ) -> u8
-    // The program answers as the flat documents do: where the source tells what it holds and `out` what it took, the
-    // bytes written for a script that was answered are the replies to all of its lines, one by one, by new documents.
+    // The program answers as the flat documents do. If the source tells its script and `out` its bytes, then the bytes written for an
+    // answered script are the replies of new documents to all its lines, one by one.
     ensures headline { command_of words.now ≡ Words.Run → result ≤ 1
         → IsAnsweredFrom (S.state src.old) (K.state out.old) (K.state out.new) result }
 
-    // A sink that told what it took before tells the replies too, where it has room for them.
+    // A sink that told its bytes before the run tells the replies too, if it has room for them.
     ensures told { command_of words.now ≡ Words.Run → result ≤ 1
         → IsToldFrom (S.state src.old) (K.state out.old) (K.state out.new) result }
 
-    // What was written leaves no choice. A flat reply is never `! memory`, so the replies tell where memory was wanting.
+    // The bytes written determine the replies. A flat reply is never `! memory`, so the replies show where memory was short.
     ensures flat { (f : FlatSession) (line : List ℕ) → (turn f line).0 ≢ memory_reply }
     ensures decided { (start end : FlatSession) (lines replies : List (List ℕ))
         → Transcript start lines replies end → IsDecided start lines replies end }
 
-    // What stands at each status, for streams that tell and for others.
+    // What holds at each status, also for streams that do not tell their bytes.
     ensures run { command_of words.now ≡ Words.Run
         → EndsRun result (S.state src.old) (S.state src.new) (K.state out.old) (K.state out.new) }
     ensures play { (count seed : ℕ) → command_of words.now ≡ Words.Play count seed
@@ -80,7 +80,7 @@ pub fn run_words<S: Source, K: Sink, E: Sink>(
     ensures usage { command_of words.now ≡ Words.NoCommand
         → EndsWith result (λ status. ShowsUsage status (E.state err.old) (E.state err.new)) }
 
-    // Each command leaves alone what is not its own.
+    // Streams that a command does not use are unchanged.
     ensures run_leaves_err { command_of words.now ≡ Words.Run → err.new ≡ err.old }
     ensures play_leaves_source { (count seed : ℕ)
         → command_of words.now ≡ Words.Play count seed → src.new ≡ src.old }
@@ -89,8 +89,8 @@ pub fn run_words<S: Source, K: Sink, E: Sink>(
     ensures usage_leaves_source { command_of words.now ≡ Words.NoCommand → src.new ≡ src.old }
     ensures usage_leaves_out { command_of words.now ≡ Words.NoCommand → out.new ≡ out.old }
 
-    // Where no fault can come, a script within the limit is answered, unless there is no memory to begin with; and one
-    // that is played is, unless memory is wanting.
+    // If no read or write can fail, `run` answers every script within the limit, unless there is no memory to begin, and `play` answers its
+    // script, unless memory is short.
     ensures complete { command_of words.now ≡ Words.Run → ReadsWell S.state → WritesWell K.state
         → IsAnsweredWithin (S.state src.old) result }
     ensures play_complete { (count seed : ℕ) → command_of words.now ≡ Words.Play count seed
@@ -99,7 +99,7 @@ pub fn run_words<S: Source, K: Sink, E: Sink>(
     number_of(obey(alloc, words, src, out, err))
 }
 
-/// Does what the words say, and leaves alone what is not theirs.
+/// Does what the arguments say. Streams that the command does not use are unchanged.
 fn obey<S: Source, K: Sink, E: Sink>(
     alloc: Global,
     words: &[String],
@@ -169,7 +169,7 @@ fn status_after(served: Served) -> Status
     }
 }
 
-/// Room on the heap for what is read at once.
+/// Allocates the buffer for reads.
 pub(crate) fn read_buffer(alloc: Global) -> Result<Vec<u8>, AllocError>
     ensures { IfOk result (λ buf. vec_len buf ≡ READ_BYTES) }
 {

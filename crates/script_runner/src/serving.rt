@@ -1,4 +1,4 @@
-//! A script served line by line.
+//! Answers a script line by line.
 
 ghost use Rattle.std.specs.Prelude.{◌≡◌, ◌<◌, ◌+◌, length, min, [], ◌∷◌, ◌++◌, if◌then◌else◌, is_err, IfNone, IfSome};
 ghost use Rattle.script_streams.specs.Streams.{greatest_count};
@@ -19,17 +19,17 @@ use std::alloc::Global;
 /// How serving a script ended.
 #[derive(Clone, Copy, PartialEq, Eq, Debug)]
 pub enum Served {
-    /// The script was read to its end, and every reply written. `refused` of them begin with `!`, and `memory` of these are `! memory`.
+    /// The whole script was read and every reply written. `refused` replies begin with `!`; `memory` of them are `! memory`.
     Ended { refused: u64, memory: u64 },
     /// A read failed.
     ReadFault,
     /// A write failed.
     WriteFault,
-    /// As many bytes were read as may be, and the end was not seen.
+    /// The limit of bytes was read, and the script had not ended.
     TooLong,
 }
 
-/// What is kept from one piece of the script to the next.
+/// The state that is kept from one piece of the script to the next.
 #[derive(Drop)]
 pub(crate) struct Progress {
     pub line: PartialLine,
@@ -59,7 +59,7 @@ impl Progress {
         }
     }
 
-    /// Counts a refusal, and one for want of memory.
+    /// Counts a refusal, and separately one with `! memory`.
     fn count(&mut self, outcome: &Outcome)
         ensures line { self.new.line ≡ self.old.line }
         ensures refused { self.new.refused ≡ min
@@ -80,8 +80,8 @@ fn is_for_memory(outcome: &Outcome) -> bool
     matches!(outcome, Err(Refused(Refusal::Memory)))
 }
 
-/// Reads the script line by line, carries out each command, and writes its whole reply before the next command. Takes
-/// at most `most` bytes, and makes no read after them. A last line without LF is a whole line when the end was seen.
+/// Reads the script line by line, carries out each command, and writes its whole reply before the next command. Reads at most `most` bytes.
+/// A last line without LF counts as a line if the end was seen.
 pub fn serve<S: Source, K: Sink>(
     session: &mut Session,
     src: &mut S,
@@ -125,7 +125,7 @@ fn finish<K: Sink>(session: &mut Session, mut progress: Progress, out: &mut K) -
     }
 }
 
-/// Answers the line that these bytes end.
+/// Answers the line that ends with these bytes.
 fn answer_line<K: Sink>(
     session: &mut Session,
     progress: &mut Progress,
@@ -142,7 +142,7 @@ fn answer_line<K: Sink>(
     Ok(())
 }
 
-/// Answers each line that the piece of the script completes, and keeps what comes after the last of them.
+/// Answers each line that ends in this piece of the script, and keeps the bytes after the last LF.
 fn answer_piece<K: Sink>(
     session: &mut Session,
     progress: &mut Progress,
@@ -161,7 +161,7 @@ fn answer_piece<K: Sink>(
     Ok(())
 }
 
-/// The bytes before the first LF, and those after it.
+/// Returns the bytes before the first LF, and those after it; None if there is no LF.
 fn split_line(bytes: &[u8]) -> Option<(&[u8], &[u8])>
     ensures none { IfNone result (IsInOneLine bytes.now) }
     ensures split { IfSome result (λ parts. bytes.now ≡ parts.0.now ++ 10 ∷ parts.1.now) }

@@ -1,4 +1,4 @@
-//! Which command the words of the command line are.
+//! Reads the arguments of the command line.
 
 ghost use Rattle.std.specs.Prelude.{◌≡◌, ◌≤◌, ℕ, Ok, false, IfSome, IfOk, codes};
 ghost use Rattle.clap.specs.Walk.{rows_of, rule_of};
@@ -13,18 +13,18 @@ use clap::{Arg, ArgMatches, Command, value_parser};
 use script_play::MOST_LINES;
 use std::alloc::{AllocError, Global};
 
-/// What the words ask for.
+/// What the arguments ask for.
 #[derive(Clone, Copy, PartialEq, Eq, Debug)]
 pub(crate) enum Words {
-    /// To answer the script of the source.
+    /// Answer the script of the source.
     Run,
-    /// To play the script of this count and seed.
+    /// Play the script of this count and seed.
     Play { count: u32, seed: u64 },
-    /// The words are no command.
+    /// The arguments are no command.
     NoCommand,
 }
 
-/// The command that the words are; an error where there is no memory to read them.
+/// Returns the command of the arguments. Fails if there is no memory to read them.
 pub(crate) fn words_of(alloc: Global, words: &[String]) -> Result<Words, AllocError>
     ensures command { IfOk result (λ command. command ≡ command_of words.now) }
     ensures count { (count seed : ℕ) → result ≡ Ok (Words.Play count seed) → IsCount count }
@@ -36,7 +36,7 @@ pub(crate) fn words_of(alloc: Global, words: &[String]) -> Result<Words, AllocEr
     }
 }
 
-/// What clap is told of the command line.
+/// Describes the command line for clap.
 fn command_line<'a>(alloc: Global) -> Result<Command<'a>, AllocError>
     ensures { IfOk result (λ command. app_of command ≡ command_line) }
 {
@@ -67,7 +67,7 @@ fn number_line<'a>(alloc: Global, id: &'a str) -> Arg<'a>
         .value_parser(value_parser!(u64))
 }
 
-/// The command that clap found.
+/// Returns the command that clap found.
 fn command_found(matches: &ArgMatches) -> Words
     ensures command { result ≡ command_found (subcommand_rows_of matches.now) }
     ensures count { (count seed : ℕ) → result ≡ Words.Play count seed → IsCount count }

@@ -1,4 +1,4 @@
--- What comes of a line, and its bytes.
+-- The outcome of a line, and its bytes.
 use Rattle.std.specs.Prelude.{◌≡◌, ℕ, ◌⊎◌, Bool, true, false, List, [], Option, None, Some, Result, Ok, Err}
 use Rattle.text_rules.specs.declared.Op.{Op}
 use Rattle.std.specs.declared.vec.Vec.{Vec}
@@ -16,7 +16,7 @@ use Rattle.sessions.specs.declared.outcome.Reply.{Reply}
 use Rattle.sessions.specs.declared.outcome.Reply.TheVariants.{Nothing, Short, Long}
 use Rattle.sessions.specs.declared.outcome.Refused.{Refused}
 
--- how a reply names the error of a call
+-- the reason in a reply for the error of a call
 abbrev pub refusal_of : ModelError → Refusal
 refusal_of error.Unknown = refusal.Unknown
 refusal_of error.Range = refusal.Range
@@ -24,7 +24,7 @@ refusal_of error.Overlap = refusal.Overlap
 refusal_of error.Limit = refusal.Limit
 refusal_of error.Memory = refusal.Memory
 
--- how a reply names the error of a call on several documents
+-- the reason in a reply for the error of a call on several documents
 abbrev pub refusal_of_group : GroupError → Refusal
 refusal_of_group group.Unknown = refusal.Unknown
 refusal_of_group group.Range = refusal.Range
@@ -33,7 +33,7 @@ refusal_of_group group.Limit = refusal.Limit
 refusal_of_group (group.Joint doc) = refusal.Joint doc
 refusal_of_group group.Memory = refusal.Memory
 
--- how a reply names why a line was not read as a request
+-- the reason in a reply for a line that could not be read
 abbrev pub refusal_of_fault : LineFault → Refusal
 refusal_of_fault fault.Syntax = refusal.Syntax
 refusal_of_fault fault.Memory = refusal.Memory
@@ -43,7 +43,7 @@ bytes_of Nothing = []
 bytes_of (Short bytes) = bytes
 bytes_of (Long bytes) = bytes.items
 
--- what is written for a line: its reply, or the reply that refuses it
+-- the bytes that are written for a line: its reply, or the reply that refuses it
 abbrev pub bytes_of_outcome : Result Reply Refused → List ℕ
 bytes_of_outcome (Ok reply) = bytes_of reply
 bytes_of_outcome (Err refused) = refusal_reply refused.0
@@ -58,12 +58,12 @@ is_memory refusal.Limit = false
 is_memory (refusal.Gap have need) = false
 is_memory (refusal.Joint doc) = false
 
--- the line was refused for want of memory
+-- the line was refused since memory was short
 abbrev pub is_for_memory : Result Reply Refused → Bool
 is_for_memory (Ok reply) = false
 is_for_memory (Err refused) = is_memory refused.0
 
--- these are the ops, or they are refused for the range of one of them; or memory is wanting
+-- the result is these ops, or `Range` if a position is invalid, or `Memory`
 abbrev pub AreFound : Result (Vec Op Global) ModelError → Option (List Op) → Type 0
 AreFound (Ok ops) rule = rule ≡ Some ops.items
 AreFound (Err e) rule = (e ≡ error.Memory) ⊎ ((e ≡ error.Range) × (rule ≡ None))

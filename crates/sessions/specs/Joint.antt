@@ -1,4 +1,4 @@
--- A joint edit: its batches at their spans, and what its reply tells of each document.
+-- A joint edit: its batches with offsets, and its reply.
 use Rattle.std.specs.Prelude.{◌≡◌, ◌⊎◌, ℕ, List, [], ◌∷◌, map, length, Option, Some, None, Result, Ok, Err}
 use Rattle.std.specs.List.{flat_map}
 use Rattle.std.specs.declared.vec.Vec.{Vec}
@@ -10,7 +10,7 @@ use Rattle.group_rules.specs.declared.DocBatch.{DocBatch}
 use Rattle.group_rules.specs.Joint.{FlatBatch, flat_batch}
 use Rattle.script_lines.specs.Replies.{number_part}
 
--- these are the batches, or they are refused for the range of one of them; or memory is wanting
+-- the result is these batches, or `Range` if a position is invalid, or `Memory`
 abbrev pub AreBatchesFound : Result (Vec DocBatch Global) ModelError → Option (List FlatBatch) → Type 0
 AreBatchesFound (Ok batches) rule = rule ≡ Some (map flat_batch batches.items)
 AreBatchesFound (Err e) rule = (e ≡ error.Memory) ⊎ ((e ≡ error.Range) × (rule ≡ None))

@@ -1,4 +1,4 @@
--- When a session represents a flat one. It keeps events by their batches, and the flat one by their whole texts.
+-- When a session represents a flat session. A session keeps events as batches, a flat session as whole texts.
 use Rattle.std.specs.Prelude.{◌≡◌, ◌≢◌, ℕ, ◌+◌, ◌-◌, ◌<◌, ◌≤◌, List, [], map, length, slice_get, Option, Some, None, IfSome}
 use Rattle.std.specs.List.{All}
 use Rattle.batch_rules.specs.Events.{EventState}
@@ -13,17 +13,17 @@ use Rattle.sessions.specs.declared.session.Session.{Session}
 use Rattle.session_rules.specs.Session.{FlatSession, FlatFollower}
 use Rattle.session_rules.specs.Script.{Turn, Transcript}
 
--- the event was sent at a version that was, and takes the text of it to that of the next
+-- the event is from a past version, and leads from the text of that version to the text of the next
 pub record IsSent (t : ℕ → List ℕ) (version : ℕ) (e : EventState) : Type 0 where
   pub past : e.from < version
   pub leads : LeadsAlong t e
 
--- the mirror has the text of a version that was
+-- the mirror has the text of a past or the present version
 pub record IsMirror (t : ℕ → List ℕ) (version : ℕ) (m : MirrorState) : Type 0 where
   pub past : m.version ≤ version
   pub text : m.units ≡ t m.version
 
--- `t` tells the text of each version, as far as they are known
+-- `t` gives the text of each version, as far as the session knows it
 pub record AreTexts (t : ℕ → List ℕ) (f : FlatState) (mirror : Option MirrorState) (sent : List EventState) : Type 0 where
   pub first : 1 ≤ f.version
   pub now : t f.version ≡ f.units
@@ -35,7 +35,7 @@ pub record AreTexts (t : ℕ → List ℕ) (f : FlatState) (mirror : Option Mirr
 abbrev pub with_text : (ℕ → List ℕ) → EventState → SentEvent
 with_text t e = record { from = e.from; after = t (e.from + 1) }
 
--- a mirror and events of this document are those of the flat follower
+-- the mirror and the events of this document represent the flat follower
 pub record Follows (f : FlatState) (mirror : Option MirrorState) (sent : List EventState) (flat : FlatFollower) : Type 0 where
   pub mirrored : flat.mirror ≡ mirror
   pub texts : ℕ → List ℕ
@@ -46,33 +46,33 @@ pub record Represents (s : Session) (flat : FlatSession) : Type 0 where
   pub documents : flat.documents ≡ documents s.group
   pub count : length s.followers.items ≡ DOC_COUNT
   pub flat_count : length flat.followers ≡ DOC_COUNT
-  -- each follower is that of the document of its number
+  -- each follower represents the flat follower of the same number
   pub each : (n : ℕ) (own : Follower) (follower : FlatFollower)
       → slice_get s.followers.items n ≡ Some own → slice_get flat.followers n ≡ Some follower
       → Follows (doc_in flat.documents n) own.mirror own.sent.items follower
 
--- nothing was mirrored or sent
+-- no mirror and no events
 pub record IsFresh (own : Follower) : Type 0 where
   pub mirror : own.mirror ≡ None
   pub sent : own.sent.items ≡ []
 
--- one for each document, and nothing was mirrored or sent
+-- one for each document, without a mirror or events
 pub record AreFresh (followers : List Follower) : Type 0 where
   pub count : length followers ≡ DOC_COUNT
   pub each : (n : ℕ) (own : Follower) → slice_get followers n ≡ Some own → IsFresh own
 
--- what followed the document of this number is gone, and the others are as they were
+-- the mirror and the events of this document are removed, and all others are unchanged
 pub record BeginsAnew (n : ℕ) (old new : List Follower) : Type 0 where
   pub count : length new ≡ length old
   pub anew : (own : Follower) → slice_get new n ≡ Some own → IsFresh own
   pub rest : (k : ℕ) → k ≢ n → slice_get new k ≡ slice_get old k
 
--- whichever flat session the old one represents: the reply answers the line on it, and the new one represents what it is then
+-- if the old session represents a flat session, the reply is that session's, and the new session represents the flat session after it
 abbrev pub Turns : Session → List ℕ → List ℕ → Session → Type 0
 Turns old line reply new =
     (flat : FlatSession) → Represents old flat → (next : FlatSession) × Turn flat line reply next × Represents new next
 
--- the same of many lines
+-- `Turns` for many lines
 pub record Replied (start : Session) (lines replies : List (List ℕ)) (end : Session) : Type 0 where
   pub count : length replies ≡ length lines
   pub told : (flat : FlatSession) → Represents start flat → (next : FlatSession) × Transcript flat lines replies next × Represents end next

@@ -1,4 +1,4 @@
-//! The reply that tells what the last change did.
+//! The reply to the question what the last change did.
 
 ghost use Rattle.std.specs.Prelude.{◌≡◌, ◌++◌, OnOk};
 ghost use Rattle.std.specs.List.{flat_map};

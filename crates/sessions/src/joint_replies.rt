@@ -17,13 +17,13 @@ use model_group::{DocBatch, Group, names_badly};
 use script_lines::{DocEdit, DocEdits, Refusal, long_begin, long_end, long_number};
 use std::alloc::{AllocError, Global};
 
-/// The most bytes that the reply has for each document: four numbers.
+/// The most bytes of a document's part of the reply: four numbers.
 const DOC_BYTES: usize = 84;
 
-/// The bytes of the reply besides: `ok` and LF.
+/// The bytes of `ok` and LF.
 const END_BYTES: usize = 3;
 
-/// Room for the whole reply is made before the first change, so nothing changed where the reply is `! memory`.
+/// Reserves room for the whole reply before the first change. So nothing has changed if the reply is `! memory`.
 pub(crate) fn joint_reply(alloc: Global, group: &mut Group, edits: DocEdits) -> Outcome
     requires { AreBatches edits }
     ensures { let g = documents group.old in
@@ -46,7 +46,7 @@ fn docs_of(alloc: Global, edits: &[DocEdit]) -> Result<Vec<u64>, AllocError>
     edits.iter().map(|edit| edit.doc).collect(alloc)
 }
 
-/// The batches at their spans. `Range` where a position of theirs is invalid.
+/// Converts the batches to offsets. `Range` if a position is invalid.
 fn batches_at(
     alloc: Global,
     group: &mut Group,
@@ -67,7 +67,7 @@ fn batches_at(
     Ok(batches)
 }
 
-/// Room for the reply that tells of so many documents.
+/// Returns an empty reply with room for `docs` documents.
 fn room_for(alloc: Global, docs: usize) -> Result<Vec<u8>, AllocError>
     ensures empty { IfOk result (λ reply. reply.items ≡ []) }
     ensures room { IfOk result (λ reply. docs * DOC_BYTES + END_BYTES ≤ vec_capacity reply) }
@@ -81,7 +81,7 @@ fn room_for(alloc: Global, docs: usize) -> Result<Vec<u8>, AllocError>
     Vec::with_capacity(alloc, most)
 }
 
-/// `ok` and the numbers of each document, within the room that there is.
+/// Appends `ok` and the part of each document, into reserved room.
 fn tell_all(group: &Group, docs: &[u64], reply: &mut Vec<u8>) -> Result<(), AllocError>
     requires there { All (λ doc. doc < DOC_COUNT) docs.now }
     requires room { vec_len reply.old + length docs.now * DOC_BYTES + END_BYTES
@@ -97,7 +97,7 @@ fn tell_all(group: &Group, docs: &[u64], reply: &mut Vec<u8>) -> Result<(), Allo
     long_end(reply)
 }
 
-/// ` DOC VERSION UNITS LINES`
+/// Appends ` DOC VERSION UNITS LINES`.
 fn tell_doc(doc: u64, model: &Model, reply: &mut Vec<u8>) -> Result<(), AllocError>
     requires room { vec_len reply.old + DOC_BYTES ≤ vec_capacity reply.old }
     ensures sure { IsOk result }

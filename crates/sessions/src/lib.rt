@@ -1,5 +1,4 @@
-//! Sessions: documents and what follows them, which answer lines. `script_runner` reads scripts for one, and the library
-//! for C hands its own out.
+//! Sessions: the documents with their mirrors and events. A session answers lines. `script_runner` and the library for C use it.
 #![tactic(auto)]
 
 mod bracket_replies;

@@ -1,12 +1,12 @@
-//! What a line may be.
+//! The limits of a line.
 
 ghost use Rattle.std.specs.Prelude.{◌≡◌};
 ghost use Rattle.session_rules.specs.Script.{is_blank_byte, is_blank};
 
-/// The most bytes that a line may have, its LF not counted.
+/// The greatest length of a line in bytes, without its LF.
 pub const MOST_LINE_BYTES: usize = 0x100_0000;
 
-/// Whether a line of these bytes has nothing but spaces, tabs and CR.
+/// Returns whether a line has only spaces, tabs and CR.
 pub fn is_blank(bytes: &[u8]) -> bool
     ensures { result ≡ is_blank bytes.now }
 {

@@ -16,7 +16,7 @@ use model_core::{Event, Model};
 use script_lines::{Command, Refusal, Short};
 use std::alloc::{AllocError, Global};
 
-/// So many events may be sent of one document.
+/// At most this many events are sent of one document.
 const MOST_SENT: usize = 0x1_0000;
 
 pub(crate) fn mirror_reply(session: &mut Session, doc: u64) -> Outcome
@@ -105,12 +105,12 @@ fn take_event(follower: &mut Follower, n: u64) -> Outcome
         Ok(false) => Ok(Reply::Short(Short::old())),
         Err(MirrorError::Gap { have, need }) => Err(Refused(Refusal::Gap { have, need })),
         Err(MirrorError::Memory) => Err(Refused(Refusal::Memory)),
-        // The events of a document fit the texts of it.
+        // Never happens: the events of a document fit its texts.
         Err(MirrorError::Misfit { .. }) => Err(Refused(Refusal::Unknown)),
     }
 }
 
-/// The event of this number, counted from 1.
+/// Returns the event of this number, counted from 1.
 fn event_at(sent: &[Event], n: u64) -> Option<&Event>
     ensures { option_copied result ≡ if n == 0 then None else slice_get sent.now (n - 1) }
 {

@@ -1,4 +1,4 @@
-//! The edits of a line at their spans of offsets.
+//! Converts the edits of a line from positions to offsets.
 
 ghost use Rattle.std.specs.Prelude.{◌≡◌, ◌<◌};
 ghost use Rattle.group_rules.specs.declared.TheConstants.{DOC_COUNT};
@@ -13,8 +13,7 @@ use script_lines::{LineOp, LineOps, Place};
 use std::alloc::Global;
 use text_lengths::Span;
 
-/// The edits of a document at their spans. `Range` where a position of theirs is invalid. What was looked up is
-/// remembered for the edit that comes next.
+/// Converts the edits of a document to offsets. `Range` if a position is invalid. Remembers the pieces for the next edit.
 pub(crate) fn ops_at(
     alloc: Global,
     group: &mut Group,

@@ -1,4 +1,4 @@
-//! What comes of a line: the reply to it, or why it is refused.
+//! The outcome of a line: its reply, or why it is refused.
 
 ghost use Rattle.std.specs.Prelude.{◌≡◌};
 ghost use Rattle.script_lines.specs.declared.reason.Refusal.TheVariants as refusal;
@@ -9,10 +9,10 @@ use model_group::GroupError;
 use script_lines::{LineFault, Refusal, Short};
 use std::alloc::AllocError;
 
-/// The reply to a line that is not refused.
+/// The reply to an accepted line.
 #[derive(Drop)]
 pub enum Reply {
-    /// A blank line has none.
+    /// The reply to a blank line.
     Nothing,
     Short(Short),
     Long(Vec<u8>),
@@ -30,11 +30,11 @@ impl Reply {
     }
 }
 
-/// A line was refused for this reason.
+/// A refused line, with the reason.
 #[derive(Clone, Copy)]
 pub struct Refused(pub Refusal);
 
-/// What comes of a line.
+/// The outcome of a line.
 pub type Outcome = Result<Reply, Refused>;
 
 impl From<ModelError> for Refused {

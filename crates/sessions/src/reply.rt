@@ -1,4 +1,4 @@
-//! Requests carried out, and the replies to them.
+//! Carries out requests and makes their replies.
 
 ghost use Rattle.std.specs.Prelude.{◌≡◌, ◌<◌, ◌++◌, ◌∷◌, [], ℕ, List, if◌then◌else◌, IfOk, unwrap_or, length};
 ghost use Rattle.bracket_rules.specs.Table.{standard_table};
@@ -45,7 +45,7 @@ pub(crate) fn reply_to_bytes(session: &mut Session, line: &[u8]) -> Outcome
     carry_request(session, request)
 }
 
-/// A document that is not there is refused.
+/// Refuses a document number that is out of range.
 fn carry_request(session: &mut Session, request: Request) -> Outcome
     requires { IsProper request }
     ensures { TellsOf (λ flat. request_answer flat request) session.old result session.new }
@@ -124,7 +124,7 @@ fn open_reply(
     Ok(change_reply(session.group.doc(doc)))
 }
 
-/// The brackets that are asked for, or the standard ones.
+/// Returns the given brackets, or else the standard ones.
 fn table_of(brackets: Option<BracketTable>) -> BracketTable
     ensures { result ≡ unwrap_or brackets standard_table }
 {
@@ -134,7 +134,7 @@ fn table_of(brackets: Option<BracketTable>) -> BracketTable
     }
 }
 
-/// The marks that are asked for, or none.
+/// Returns the given marks, or else none.
 fn hiding_of(marks: Option<Hiding>) -> Hiding
     ensures { result ≡ unwrap_or marks no_marks }
 {
@@ -210,7 +210,7 @@ fn change_reply(model: &Model) -> Reply
     Reply::Short(Short::ok(&[model.versions().0, model.len(), model.line_count()]))
 }
 
-/// `ok none` where there was nothing to do.
+/// Returns `ok none` if there was nothing to do.
 pub(crate) fn move_reply(is_moved: bool, model: &Model) -> Reply
     ensures { bytes_of result ≡ if is_moved then change_reply model.now.document else none_reply }
 {

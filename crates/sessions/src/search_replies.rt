@@ -1,4 +1,4 @@
-//! Replies to the commands that look for a text.
+//! Replies to the search commands.
 
 ghost use Rattle.std.specs.Prelude.{◌≡◌, ◌<◌, length, IfOk};
 ghost use Rattle.search_rules.specs.Replacing.{flat_find};

@@ -1,4 +1,4 @@
-//! What is kept from one line to the next.
+//! The state that is kept from line to line.
 
 ghost use Rattle.std.specs.Prelude.{◌≡◌, ◌<◌, [], None, IfOk, OnOk, OnErr};
 ghost use Rattle.hiding_rules.specs.Hidden.{scanner};
@@ -21,17 +21,17 @@ use script_lines::{Command, Refusal};
 use std::alloc::{AllocError, Global};
 use steps::{Steps, Uncounted};
 
-/// What follows a document.
+/// A document's mirror and sent events.
 #[derive(Drop)]
 pub struct Follower {
-    /// The text that follows the document by its events, where one was begun.
+    /// The mirror, if one was begun.
     pub mirror: Option<Mirror>,
-    /// The events that were sent, the first one first.
+    /// The events that were sent, in order.
     pub sent: Vec<Event>,
 }
 
 impl Follower {
-    /// Nothing was mirrored or sent.
+    /// No mirror and no events.
     fn new(alloc: Global) -> Follower
         ensures mirror { result.mirror ≡ None }
         ensures sent { result.sent.items ≡ [] }
@@ -43,19 +43,19 @@ impl Follower {
     }
 }
 
-/// Answers lines, one after another: the documents, what follows each of them, and where replies take their memory. The steps of its
-/// questions are counted together.
+/// Answers lines, one after another. Holds the documents, their mirrors and events, the allocator of replies, and one counter for the steps
+/// of all questions.
 #[derive(Drop)]
 pub struct Session {
     pub alloc: Global,
     pub group: Group,
-    /// By the numbers of their documents.
+    /// One for each document, by number.
     pub followers: Vec<Follower>,
     pub steps: Steps<Uncounted>,
 }
 
 impl Session {
-    /// A session with empty documents.
+    /// Makes a session of empty documents.
     pub fn new(alloc: Global) -> Result<Session, AllocError>
         ensures { IfOk result (λ session. Represents session new_session) }
     {
@@ -69,7 +69,7 @@ impl Session {
         })
     }
 
-    /// Opens a new document of this number as `Group::open_doc` does. The mirror and the events of the old one go with it.
+    /// Replaces this document by a new one, as `Group::open_doc` does. Removes its mirror and its events.
     pub fn open_doc(
         &mut self,
         doc: u64,
@@ -93,7 +93,7 @@ impl Session {
         Ok(())
     }
 
-    /// Carries out a command on the document of this number, as a line that spells it would.
+    /// Carries out a command on this document, as if a line had asked for it.
     pub fn carry_out(&mut self, doc: u64, command: Command) -> Outcome
         requires { doc < DOC_COUNT }
         ensures { Tells self.old doc command result self.new }
@@ -101,7 +101,7 @@ impl Session {
         carry_out(self, doc, command)
     }
 
-    /// Answers a whole line, which comes without its LF.
+    /// Answers a whole line, given without its LF.
     pub fn answer(&mut self, line: &[u8]) -> Outcome
         ensures turn { Turns self.old line.now (bytes_of_outcome result) self.new }
         ensures accepted { IsAccepted result }
@@ -116,7 +116,7 @@ impl Session {
     }
 }
 
-/// One for each document, and nothing was mirrored or sent.
+/// One for each document, without a mirror or events.
 fn new_followers(alloc: Global) -> Result<Vec<Follower>, AllocError>
     ensures { IfOk result (λ followers. AreFresh followers.items) }
 {

@@ -24,7 +24,7 @@ pub(crate) fn snapshot_reply(group: &mut Group, doc: u64) -> Outcome
     Ok(Reply::Short(Short::ok(&[id])))
 }
 
-/// The units are passed only when the reply stands, so want of memory leaves the snapshot as it was.
+/// Moves on in the snapshot only after the reply is made. So on `! memory` the snapshot is unchanged.
 pub(crate) fn read_reply(alloc: Global, group: &mut Group, doc: u64, id: u64, count: u64) -> Outcome
     requires { doc < DOC_COUNT }
     ensures { TellsIn group.old doc (λ f. read_answer f id (flat_peek_of f id count)) result group.new }

@@ -3,7 +3,7 @@ use Rattle.std.specs.Prelude.{◌≡◌, List, [], ◌∷◌, codes, false, refl
 use Rattle.text_rules.specs.declared.Op.{Op}
 use Rattle.text_batches.specs.Needs.{text_breaks}
 
--- a CR and an LF in the texts of two ops
+-- a CR in the text of one op and an LF in that of the next
 abbrev two_halves_of_a_pair : List Op
 two_halves_of_a_pair =
     record { span = record { start = 0; end = 0 }; text = codes "\r"; force = false }

@@ -1,4 +1,4 @@
-//! A batch on a text.
+//! Carries out a batch on a text.
 
 ghost use Rattle.std.specs.Prelude.{◌≡◌, ◌+◌, ◌<◌, ◌^◌, length};
 ghost use Rattle.unit_text.specs.declared.kind.Kind.TheVariants.{Mixed};
@@ -10,8 +10,7 @@ ghost use Rattle.text_batches.specs.Needs.{need_of_ops};
 use text_buffer::TextBuffer;
 use text_rules::Op;
 
-/// Carries out the ops on a text by itself, which has room for them. Where they stand is looked up for all of them at once, if there
-/// is memory for that; it asks for no other.
+/// Carries out the ops on a text with reserved room. Looks up all their ends first if there is memory for that; allocates nothing else.
 pub fn apply_to_text(text: &mut TextBuffer, ops: &[Op])
     requires standing { StandFrom 0 text.old.units ops.now }
     requires mixed { text.old.kind ≡ Mixed }

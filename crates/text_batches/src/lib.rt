@@ -1,4 +1,4 @@
-//! Batches on a text in pieces: what room they ask for, and how each is carried out.
+//! Batches on a text in pieces: the room that they need, and carrying them out.
 #![tactic(auto)]
 
 mod apply;

@@ -1,4 +1,4 @@
-//! The room that batches ask for.
+//! The room that batches need.
 
 ghost use Rattle.std.specs.Prelude.{◌≡◌, ◌+◌, ◌≤◌, ◌<◌, ◌^◌, IfOk, IfSome, length};
 ghost use Rattle.std.specs.List.{All};
@@ -12,8 +12,7 @@ use std::alloc::AllocError;
 use text_buffer::Need;
 use text_rules::Op;
 
-/// What the batches, whose edits follow one another as those of every batch do, ask for together. An error where that is more than
-/// there may be room for.
+/// Returns the room that the batches need together. The edits of each batch are in order. Fails if that is more than can be reserved.
 pub fn need_of_batches(batches: &[Batch]) -> Result<Need, AllocError>
     requires { All (λ ops. FollowFrom 0 ops → text_units ops ≤ most_units) batches.now }
     ensures { IfOk result (λ need. need ≡ need_of_batches batches.now) }
@@ -29,7 +28,7 @@ pub fn need_of_batches(batches: &[Batch]) -> Result<Need, AllocError>
     Ok(all)
 }
 
-/// What the ops of the batch ask for.
+/// Returns the room that the ops of the batch need.
 pub fn need_of_batch(batch: &Batch) -> Need
     requires { FollowFrom 0 batch.now → text_units batch.now ≤ most_units }
     ensures { result ≡ need_of_ops batch.now }
@@ -41,7 +40,7 @@ pub fn need_of_batch(batch: &Batch) -> Need
     }
 }
 
-/// What one op asks for that puts in these units.
+/// Returns the room that an op with this text needs.
 pub fn need_of_text(units: &[u16]) -> Need
     ensures edits { result.edits ≡ 1 }
     ensures units { result.units ≡ length units.now }
@@ -54,7 +53,7 @@ pub fn need_of_text(units: &[u16]) -> Need
     }
 }
 
-/// What both ask for together. None where that is more than there may be room for.
+/// Returns the sum of both; None if that is more than can be reserved.
 pub fn joined(a: Need, b: Need) -> Option<Need>
     ensures edits { IfSome result (λ need. need.edits ≡ a.edits + b.edits) }
     ensures units { IfSome result (λ need. need.units ≡ a.units + b.units) }
@@ -67,7 +66,7 @@ pub fn joined(a: Need, b: Need) -> Option<Need>
     })
 }
 
-// How many breaks the texts of the ops have together.
+// Returns the number of breaks in the texts of all ops.
 fn text_breaks(ops: &[Op]) -> u64
     requires { text_units ops.now < 2 ^ 64 }
     ensures { result ≡ text_breaks ops.now }

@@ -175,25 +175,32 @@ found_there entries us p vs (Some found) offset is here start end =
     (omega (arith, before, here.start)) (omega (arith, before, here.end)) in
     (found, refl, omega (arith, before, count), sym (ap (λ (q : Piece). q.span) same))
 
--- where a span takes the place of one piece, there are no more pieces than before
-pub takes_place : (b : List (List ℕ)) (us : List Piece) (p : Piece) (vs ps : List Piece) (from to : ℕ) (span : Option ChunkSpan) → ps ≡ us ++ p ∷ vs → All IsFull ps
-    → from ≡ unit_count us → to ≡ unit_count us + p.span.units → length (spliced b from to span ps) ≤ length ps
-takes_place b us p vs ps from to span is full first last =
-    let own = (All-parts IsFull us (p ∷ vs) (subst (All IsFull) is full)).1 in
-    let head = ap (front b from) is ∙ front-append b us (p ∷ vs) from 0 (omega (arith, first)) in
-    let none = ap length (front_zero b (p ∷ vs) own) in
-    let regrouped : ps ≡ (us ++ p ∷ []) ++ vs = is ∙ sym (append_assoc us (p ∷ []) vs) in
-    let whole : to ≡ unit_count (us ++ p ∷ []) + 0 = omega (arith, sum_by-append (λ (q : Piece). q.span.units) us (p ∷ []), units-cons p [], last) in
-    let tail = ap (back b to) regrouped ∙ back-append b (us ++ p ∷ []) vs to 0 whole in
+-- where a span takes the place of some pieces, it is one for all of these
+pub stretch_gives_way : (b : List (List ℕ)) (us mid vs ps : List Piece) (from to : ℕ) (span : Option ChunkSpan) → ps ≡ us ++ mid ++ vs → All IsFull ps
+    → from ≡ unit_count us → to ≡ unit_count us + unit_count mid → length (spliced b from to span ps) + length mid ≤ length ps + 1
+stretch_gives_way b us mid vs ps from to span is full first last =
+    let parts : ps ≡ us ++ (mid ++ vs) = is ∙ append_assoc us mid vs in
+    let rest = (All-parts IsFull us (mid ++ vs) (subst (All IsFull) parts full)).1 in
+    let head = ap (front b from) parts ∙ front-append b us (mid ++ vs) from 0 (omega (arith, first)) in
+    let none = ap length (front_zero b (mid ++ vs) rest) in
+    let whole : to ≡ unit_count (us ++ mid) + 0 = omega (arith, sum_by-append (λ (q : Piece). q.span.units) us mid, last) in
+    let tail = ap (back b to) is ∙ back-append b (us ++ mid) vs to 0 whole in
     omega (
       arith,
       length-append (followed_by b (front b from ps) span) (back b to ps),
       length-followed_by b (front b from ps) span,
       ap length head,
-      length-append us (front b 0 (p ∷ vs)),
+      length-append us (front b 0 (mid ++ vs)),
       none,
       ap length tail,
       length-back b 0 vs,
       ap length is,
-      length-append us (p ∷ vs),
+      length-append (us ++ mid) vs,
+      length-append us mid,
     )
+
+-- where it takes the place of one piece, there are no more pieces than before
+pub takes_place : (b : List (List ℕ)) (us : List Piece) (p : Piece) (vs ps : List Piece) (from to : ℕ) (span : Option ChunkSpan) → ps ≡ us ++ p ∷ vs → All IsFull ps
+    → from ≡ unit_count us → to ≡ unit_count us + p.span.units → length (spliced b from to span ps) ≤ length ps
+takes_place b us p vs ps from to span is full first last =
+    omega (arith, stretch_gives_way b us (p ∷ []) vs ps from to span (is ∙ sym (append_assoc us (p ∷ []) vs)) full first (omega (arith, last, units-cons p [])))

@@ -18,3 +18,4 @@ pub mod Spots
 pub mod AddedBreaks
 pub mod Along
 pub mod Whole
+pub mod Rewriting

@@ -11,9 +11,8 @@ use Rattle.chunk_buffers.specs.declared.span.ChunkSpan.{ChunkSpan}
 use Rattle.chunk_buffers.specs.Chunks.{units_at, part_of, LiesIn}
 use Rattle.piece_tree.specs.declared.piece.Found.{Found}
 use Rattle.piece_tree.specs.declared.piece.Piece.{Piece}
-use Rattle.piece_tree.specs.Pieces.{Entry, pieces_of, piece_of, unit_count, back, AreNeighbours, IsAmong, IsFound, IsPieceOf, HasUnit}
+use Rattle.piece_tree.specs.Pieces.{Entry, pieces_of, piece_of, unit_count, back, AreNeighbours, IsAmong, IsFound, IsPieceOf, HasUnit, entry_found}
 use Rattle.piece_tree.specs.Walking.{LeftFrom}
-use Rattle.piece_tree.proofs.Places.{piece_found}
 use Rattle.piece_tree.proofs.Cuts.{back_past, back_none, back_part, back-append, pieces-back}
 use Rattle.text_buffer.specs.Reading.{runs_of, rest_from, spans_with, pieces_at, AreBehind, CanRead}
 use Rattle.text_buffer.specs.Text.{spelled}
@@ -21,6 +20,9 @@ use Rattle.text_buffer.proofs.Borders.{unsplit-back, full-back}
 use Rattle.text_buffer.proofs.Found.{own_is, all_later, pieces_are}
 use Rattle.text_buffer.proofs.Spelling.{length-units_at, back_of_piece, spelled-back}
 use Rattle.text_buffer.proofs.Whole.{back_of_all}
+
+abbrev piece_found : Found → Piece
+piece_found found = (entry_found found).piece
 
 -- the first of some lists, where it ends before the offset or at it, and where the offset stands in it
 rest_past : (n : ℕ) (x : List ℕ) (xs : List (List ℕ)) → length x ≤ n → rest_from n (x ∷ xs) ≡ rest_from (n - length x) xs

@@ -8,11 +8,11 @@ use Rattle.text_buffer.specs.Reading.{rest_from}
 abbrev span : ℕ → ℕ → ChunkSpan
 span start units = record { buffer = 0; start = start; units = units }
 
--- a place in a text of one piece with so many units
+-- a spot in a text of one piece with this many units
 abbrev place : ℕ → ℕ → Spot
 place units offset = record {
   offset = offset;
-  found = Some (record { id = 1; span = span 0 units; breaks = 0; before = record { units = 0; breaks = 0 } });
+  found = Some (record { id = record { run = 1; place = 0 }; span = span 0 units; breaks = 0; before = record { units = 0; breaks = 0 } });
   after_return = false;
   before_feed = false;
 }
@@ -32,11 +32,11 @@ a_unit_that_goes_joins_the_rests = refl
 the_first_unit_goes_and_nothing_comes : rests_of words (place 10 0) (place 10 1) 0 ≡ record { front = None; back = None }
 the_first_unit_goes_and_nothing_comes = refl
 
--- four units before the place are too many
+-- four units before the offset are too many
 a_long_front_stays : rests_of words (place 8 4) (place 8 5) 1 ≡ record { front = None; back = Some (span 5 3) }
 a_long_front_stays = refl
 
--- and so are two breaks, an LF each
+-- and so are two breaks, here two LF
 two_breaks_stay : rest_before ((10 ∷ 97 ∷ 10 ∷ 98 ∷ []) ∷ []) (place 4 3).found 3 ≡ None
 two_breaks_stay = refl
 

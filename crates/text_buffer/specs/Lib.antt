@@ -9,3 +9,4 @@ pub mod Again
 pub mod Along
 mod Examples
 pub use Rattle.piece_tree.specs.Costs
+pub mod Rewriting

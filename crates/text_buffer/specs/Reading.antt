@@ -1,4 +1,4 @@
--- A reader of a text run by run: what is left of it, and what it may still cost.
+-- A reader of a text run by run: the remaining runs and their cost.
 use Rattle.std.specs.Prelude.{ℕ, ◌≡◌, ◌-◌, ◌<◌, Option, Some, None, List, [], ◌∷◌, length, drop, map, nat_le, if◌then◌else◌}
 use Rattle.std.specs.List.{All}
 use Rattle.chunk_buffers.specs.declared.span.ChunkSpan.{ChunkSpan}
@@ -11,26 +11,26 @@ use Rattle.text_buffer.specs.declared.rest.Rest.{Rest}
 use Rattle.text_buffer.specs.Text.{spelled, IsUnsplit}
 
 pub record Reading : Type 0 where
-  -- the runs that the reader has not given yet
+  -- the remaining runs
   pub left : List (List ℕ)
-  -- how many more steps than three for each of them it may still take
+  -- how many steps it may still take beyond three for each run
   pub due : ℕ
 
--- what each of the spans spells
+-- the units of each span
 abbrev pub runs_of : List (List ℕ) → List ChunkSpan → List (List ℕ)
 runs_of buffers spans = map (units_at buffers) spans
 
--- the lists from an offset on: those that end before it or at it are left out, and the one in which it stands is cut there
+-- the lists from an offset on: those that end at or before it are left out, and the one around it is cut
 abbrev pub rest_from : ℕ → List (List ℕ) → List (List ℕ)
 rest_from offset [] = []
 rest_from offset (x ∷ xs) = if nat_le (length x) offset then rest_from (offset - length x) xs else drop offset x ∷ xs
 
--- these are the pieces behind the looked-up one
+-- `left` are the pieces after the looked-up one
 pub record AreBehind (entries : List Entry) (found : Found) (left : List Entry) : Type 0 where
   pub piece : IsFound entries found
   pub are : left ≡ piece.later
 
--- a span that may be there, and those of pieces behind it
+-- a span, if any, followed by those of the pieces
 abbrev pub spans_with : Option ChunkSpan → List Entry → List ChunkSpan
 spans_with None entries = map (λ p. p.span) (pieces_of entries)
 spans_with (Some span) entries = span ∷ map (λ p. p.span) (pieces_of entries)
@@ -44,20 +44,20 @@ pieces_at buffers spans = map (piece_of buffers) spans
 abbrev pub pieces_left : List (List ℕ) → Rest → List Piece
 pieces_left buffers rest = pieces_at buffers (spans_left rest)
 
--- the lines of what is left
+-- the lines of the rest
 abbrev pub lines_left : List (List ℕ) → Rest → List Line
 lines_left buffers rest = lines_of (spelled buffers (pieces_left buffers rest))
 
--- the lines of a span and of what is left behind it
+-- the lines of a span followed by the rest
 abbrev pub lines_from : List (List ℕ) → ChunkSpan → Rest → List Line
 lines_from buffers span rest = lines_of (spelled buffers (piece_of buffers span ∷ pieces_left buffers rest))
 
--- the first of some lines
+-- the first line
 abbrev pub first_line : List Line → Line
 first_line [] = record { content = []; break = [] }
 first_line (l ∷ ls) = l
 
--- the pieces lie in the buffers, none of them is empty, and no CR LF lies across the border of two
+-- the pieces are within the buffers, none is empty, and no CR LF is split between two
 pub record CanRead (buffers : List (List ℕ)) (pieces : List Piece) : Type 0 where
   pub counted : All (IsPieceOf buffers) pieces
   pub full : All (λ (p : Piece). 0 < p.span.units) pieces

@@ -22,17 +22,17 @@ pub record Text : Type 0 where
   pub units : List ℕ
   -- the kind of its line endings
   pub kind : Kind
-  -- the spans of the buffers that spell the units, one for each piece
+  -- the spans of the buffers whose units make the text, one for each piece
   pub spans : List ChunkSpan
   pub buffers : List (List ℕ)
-  -- for what edits there is room
+  -- the edits that need no allocation
   pub room : Room
 
 -- the units of the pieces, one after another
 abbrev pub spelled : List (List ℕ) → List Piece → List ℕ
 spelled buffers pieces = flat_map (λ p. units_at buffers p.span) pieces
 
--- no CR LF lies across the border of two pieces
+-- no CR LF is split between two pieces
 abbrev pub IsUnsplit : List (List ℕ) → List Piece → Type 0
 IsUnsplit buffers [] = Unit {0}
 IsUnsplit buffers (p ∷ ps) = (joins_pair (units_at buffers p.span) (spelled buffers ps) ≡ false) × IsUnsplit buffers ps
@@ -42,15 +42,15 @@ pub record IsText (tree : Pieces) (chunks : Shown) : Type 0 where
   -- no piece is empty
   pub full : All (λ (p : Piece). 0 < p.span.units) (pieces_of tree.entries)
   pub unsplit : IsUnsplit chunks.buffers (pieces_of tree.entries)
-  -- what is counted in it fits
+  -- the number of units fits
   pub small : unit_count (pieces_of tree.entries) < 2 ^ 62
 
--- the pieces and the buffers are a text, and the pieces that are remembered are of those, as a look-up tells them
+-- the pieces and the buffers are a text, and the remembered pieces are among its pieces
 pub record IsTextWith (tree : Pieces) (chunks : Shown) (remembered : List Found) : Type 0 where
   pub text : IsText tree chunks
   pub found : All (IsFound tree.entries) remembered
 
--- the units that pieces spell
+-- the units of the pieces
 abbrev pub units_from : Pieces → Shown → List ℕ
 units_from tree chunks = spelled chunks.buffers (pieces_of tree.entries)
 
@@ -63,12 +63,12 @@ text_of kind tree chunks = record {
   room = record { edits = tree.spare; units = chunks.spare; breaks = chunks.spare_breaks };
 }
 
--- and all line endings of the text are those of the kind
+-- and all line endings are of the kind
 pub record IsTextOf (kind : Kind) (tree : Pieces) (chunks : Shown) (remembered : List Found) : Type 0 where
   pub seen : IsTextWith tree chunks remembered
   pub endings : IsOfKind kind (units_from tree chunks)
 
--- at that offset of the text one of its spans ends, where the last buffer ends: what is appended next goes on from that span
+-- a span of the text ends at this offset and at the end of the last buffer, so the next appended units can extend it
 pub record GrowsAt (text : Text) (offset : ℕ) : Type 0 where
   pub earlier : List ChunkSpan
   pub span : ChunkSpan
@@ -78,14 +78,14 @@ pub record GrowsAt (text : Text) (offset : ℕ) : Type 0 where
   pub last : span.buffer + 1 ≡ length text.buffers
   pub end : span.start + span.units ≡ length (buffer_at text.buffers span.buffer)
 
--- the unit, where the test holds
+-- the unit if the test holds, else nothing
 abbrev pub unit_if : Bool → ℕ → List ℕ
 unit_if b unit = if b then unit ∷ [] else []
 
 abbrev pub one_if : Bool → ℕ
 one_if b = if b then 1 else 0
 
--- the units lie in these buffers as the span; where there are none, there is no span
+-- the units are in the buffers at this span; no span for no units
 abbrev pub IsAdded : List (List ℕ) → Option ChunkSpan → List ℕ → Type 0
 IsAdded buffers None units = units ≡ []
 IsAdded buffers (Some span) units = LiesIn buffers span × ((units_at buffers span ≡ units) × (0 < length units))

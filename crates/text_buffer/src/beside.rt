@@ -1,4 +1,4 @@
-//! What an edit takes along: units beside its span that are put in again with its text.
+//! The units beside its span that an edit appends again together with its text.
 
 ghost use Rattle.std.specs.Prelude.{◌≡◌, ◌-◌, ◌≤◌, length, IfSome};
 ghost use Rattle.chunk_buffers.specs.Chunks.{LiesIn};
@@ -17,10 +17,10 @@ use piece_tree::Found;
 /// The most units that are taken along on one side.
 pub(crate) const MOST_ALONG: usize = 3;
 
-/// The most breaks that these have.
+/// The most breaks among these.
 pub(crate) const MOST_BREAKS_ALONG: u64 = 1;
 
-/// What an edit leaves of the pieces that it cuts, before its span and behind it, where it is taken along.
+/// The rests of the cut pieces before and after the span, if they are taken along.
 #[derive(Clone, Copy)]
 pub(crate) struct Rests {
     pub front: Option<ChunkSpan>,
@@ -28,7 +28,7 @@ pub(crate) struct Rests {
 }
 
 impl View<'_> {
-    /// What an edit between the two places takes along, so that no small piece is left beside its text.
+    /// Returns the rests that an edit of this span takes along, so that no small piece remains beside its text.
     pub(crate) fn rests_of(&self, ends: &Ends, text: &[u16]) -> Rests
         requires view { IsView self.now }
         requires ends { AreEnds self.now.pieces.now self.now.chunks.now ends.now }
@@ -50,7 +50,7 @@ impl View<'_> {
         Rests { front, back }
     }
 
-    // What the piece at the place has before it, where that is little.
+    // Returns the part of the piece before the offset if that is short.
     fn rest_before(&self, spot: &Spot) -> Option<ChunkSpan>
         requires view { IsView self.now }
         requires spot { IsSpot self.now.pieces.now self.now.chunks.now spot.now }
@@ -61,7 +61,7 @@ impl View<'_> {
         if_little(self.chunks, self.part_in(&found, 0, own))
     }
 
-    // What the piece that the place stands inside has from there on, where that is little.
+    // Returns the part of the piece from an offset inside it on, if that is short.
     fn rest_behind(&self, spot: &Spot) -> Option<ChunkSpan>
         requires view { IsView self.now }
         requires spot { IsSpot self.now.pieces.now self.now.chunks.now spot.now }
@@ -76,8 +76,8 @@ impl View<'_> {
         if_little(self.chunks, self.part_in(&found, own, end))
     }
 
-    /// The piece that has the unit so many units before the place, which are taken along. Where it is the one before the place's, no
-    /// search is made.
+    /// Returns the piece of the unit `along` units before the spot. These are taken along. Makes no search if it is the piece before the
+    /// spot's.
     pub(crate) fn found_before(&self, spot: &Spot, along: u64) -> Option<Found>
         requires view { IsView self.now }
         requires spot { IsSpot self.now.pieces.now self.now.chunks.now spot.now }
@@ -105,7 +105,7 @@ fn if_little(chunks: &Chunks, span: ChunkSpan) -> Option<ChunkSpan>
     }
 }
 
-/// The units of the rest; where there is none, the unit that would make a pair with what comes to stand beside it, if any.
+/// Returns the units of the rest. Without a rest, returns `unit` if `joins` is set, since it makes a pair with its new neighbour.
 pub(crate) fn units_along(
     chunks: &Chunks,
     rest: Option<ChunkSpan>,

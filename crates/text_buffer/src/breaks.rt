@@ -1,11 +1,11 @@
-//! The breaks at which lines end.
+//! Line breaks.
 
 ghost use Rattle.std.specs.Prelude.{◌≡◌, ◌-◌, ◌<◌, if◌then◌else◌, length, take};
 ghost use Rattle.text_buffer.specs.Text.{ends_with_pair};
 
 use unit_text::{CARRIAGE_RETURN, LINE_FEED};
 
-/// Whether the units end with CR LF.
+/// Returns whether the units end with CR LF.
 #[tactic(auto, using(crate::proofs::Contents::pair_ends))]
 pub(crate) fn ends_with_pair(units: &[u16]) -> bool
     ensures { result ≡ ends_with_pair units.now }
@@ -18,7 +18,7 @@ pub(crate) fn ends_with_pair(units: &[u16]) -> bool
     before == CARRIAGE_RETURN && last == LINE_FEED
 }
 
-/// The units of a line but its break, which is CR LF or one unit.
+/// Returns a line without its break, which is CR LF or one unit.
 #[tactic(auto, using(crate::proofs::Contents::pair_ends))]
 pub(crate) fn without_break(line: &[u16]) -> &[u16]
     requires { 0 < length line.now }

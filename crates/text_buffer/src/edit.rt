@@ -1,4 +1,4 @@
-//! What an edit meets at the two ends of its span, each looked up by one search at most, and which lines it touches.
+//! The two ends of an edit's span, found with at most one search each, and the lines that the edit touches.
 
 ghost use Rattle.std.specs.Prelude.{◌≡◌, ℕ, ◌+◌, ◌<◌, ◌≤◌, ◌^◌, ◌&&◌, not, List, length, take, drop, IfSome};
 ghost use Rattle.piece_tree.specs.Pieces.{pieces_of, unit_count, IsFound, StandsAt};
@@ -15,26 +15,26 @@ use piece_tree::Found;
 use text_lengths::{Dirty, Span};
 use unit_text::{CARRIAGE_RETURN, LINE_FEED};
 
-/// A place of the text, with what stands on both sides of it.
+/// An offset of the text, with what is on both sides of it.
 #[derive(Clone, Copy)]
 pub(crate) struct Spot {
     pub offset: u64,
-    /// The piece that has the unit at the place; None at the end.
+    /// The piece of the unit at the offset; None at the end of the text.
     pub found: Option<Found>,
-    /// Whether a CR stands right before the place.
+    /// Whether the unit before the offset is a CR.
     pub after_return: bool,
-    /// Whether an LF stands right at the place.
+    /// Whether the unit at the offset is an LF.
     pub before_feed: bool,
 }
 
-/// Where the span of an edit starts and ends.
+/// The start and the end of an edit's span.
 #[derive(Clone, Copy)]
 pub(crate) struct Ends {
     pub start: Spot,
     pub end: Spot,
 }
 
-/// Whether a CR and an LF meet where the text of an edit comes to stand: at its start, and at its end.
+/// Whether the text of an edit will form a CR LF with its surroundings: at its start, and at its end.
 #[derive(Clone, Copy)]
 pub(crate) struct Joins {
     pub front: bool,
@@ -42,7 +42,7 @@ pub(crate) struct Joins {
 }
 
 impl View<'_> {
-    /// The ends of the span.
+    /// Finds the ends of the span.
     pub(crate) fn ends_of(&self, span: Span) -> Ends
         requires view { IsView self.now }
         requires ordered { span.start ≤ span.end }
@@ -58,8 +58,8 @@ impl View<'_> {
         Ends { start, end }
     }
 
-    // The place of this offset. It makes one search at most, and none where a piece that is remembered, the piece nearby or the one beside
-    // that has its unit, or at the end.
+    // Finds the spot of an offset, with at most one search. Makes none at the end of the text, or if a remembered piece, the piece `near`
+    // or the one beside that has the unit.
     fn spot_at(&self, near: &Option<Found>, offset: u64) -> Spot
         requires view { IsView self.now }
         requires near { IfSome near.now (IsFound (entries_in self.now)) }
@@ -84,7 +84,7 @@ impl View<'_> {
         }
     }
 
-    // Whether a CR stands right before the offset.
+    // Returns whether the unit before the offset is a CR.
     #[tactic(auto, using(crate::proofs::Lasts::last_units))]
     fn is_after_return(&self, near: &Option<Found>, offset: u64) -> bool
         requires view { IsView self.now }
@@ -100,7 +100,7 @@ impl View<'_> {
         self.unit_in(&found, offset - 1) == CARRIAGE_RETURN
     }
 
-    /// Where a CR and an LF meet, once the text stands between the two places.
+    /// Returns where a CR and an LF will meet when the text is between the two ends.
     pub(crate) fn joins_of(&self, ends: &Ends, text: &[u16]) -> Joins
         requires view { IsView self.now }
         requires ends { AreEnds self.now.pieces.now self.now.chunks.now ends.now }
@@ -113,7 +113,7 @@ impl View<'_> {
         }
     }
 
-    // Whether a CR before the first place and an LF at the start of what comes after it make a pair.
+    // Returns whether a CR before the start and an LF at the start of what follows it form a pair.
     fn joins_front(&self, ends: &Ends, text: &[u16]) -> bool
         requires view { IsView self.now }
         requires ends { AreEnds self.now.pieces.now self.now.chunks.now ends.now }
@@ -128,7 +128,7 @@ impl View<'_> {
         text[0] == LINE_FEED
     }
 
-    // Whether a CR at the end of what comes before the second place and an LF after it make a pair.
+    // Returns whether a CR at the end of what precedes the end and an LF after it form a pair.
     #[tactic(auto, using(crate::proofs::Lasts::joins_pair_after))]
     fn joins_back(&self, ends: &Ends, text: &[u16]) -> bool
         requires view { IsView self.now }
@@ -144,7 +144,7 @@ impl View<'_> {
         text[text.len() - 1] == CARRIAGE_RETURN
     }
 
-    /// Which lines an edit touches that puts these units between the two places, and how many lines stand in their place after it.
+    /// Returns the lines that an edit with this text touches, and the number of lines that replace them.
     pub(crate) fn dirty_between(&self, ends: &Ends, joins: Joins, text: &[u16]) -> Dirty
         requires view { IsView self.now }
         requires ends { AreEnds self.now.pieces.now self.now.chunks.now ends.now }
@@ -165,7 +165,7 @@ impl View<'_> {
         }
     }
 
-    /// How many breaks end at the offset or before it, where the piece has its unit, or there is none at the end.
+    /// Returns how many breaks end at or before the offset. `at` is the piece of its unit, or None at the end.
     #[tactic(auto, using(crate::proofs::Found::sizes))]
     pub(crate) fn breaks_before(&self, at: &Option<Found>, offset: u64) -> u64
         requires view { IsView self.now }
@@ -179,7 +179,7 @@ impl View<'_> {
         }
     }
 
-    // The same of the second end, where those of the first were counted.
+    // Returns the same for the end of the span. `counted` is the number for its start.
     fn breaks_behind(&self, ends: &Ends, counted: u64) -> u64
         requires view { IsView self.now }
         requires ends { AreEnds self.now.pieces.now self.now.chunks.now ends.now }
@@ -197,14 +197,14 @@ impl View<'_> {
     }
 }
 
-// Whether a CR right before the place ends a line: the break of a CR LF ends behind the LF.
+// Returns whether a CR before the offset is a break. In a CR LF it is not.
 fn ends_line(spot: &Spot) -> bool
     ensures { result ≡ (spot.now.after_return && not spot.now.before_feed) }
 {
     spot.after_return && !spot.before_feed
 }
 
-// How many pairs an edit makes at the ends of its text, which is one where it has none.
+// Returns how many pairs an edit forms at the ends of its text; without text, at most one.
 fn pairs_made(joins: Joins, text: &[u16]) -> u64
     ensures { (units : List ℕ) (span : Span) → joins ≡ joins_of units span text.now
         → result ≡ pairs_of units span text.now }
@@ -215,7 +215,7 @@ fn pairs_made(joins: Joins, text: &[u16]) -> u64
     one_if(joins.front) + one_if(joins.back)
 }
 
-/// One where the test holds, else zero.
+/// Returns 1 if the test holds, else 0.
 pub(crate) fn one_if(test: bool) -> u64
     ensures { result ≡ one_if test }
 {

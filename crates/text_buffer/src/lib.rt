@@ -1,4 +1,4 @@
-//! One text in pieces over buffers that are only appended to.
+//! A text in pieces over append-only buffers.
 #![tactic(auto)]
 
 mod beside;

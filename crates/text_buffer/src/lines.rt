@@ -16,12 +16,12 @@ use std::alloc::AllocError;
 use std::marker::Model;
 use steps::Steps;
 
-/// A reader of a text's lines, of which contracts see the text's units. The line after the last one that was read needs no search,
-/// unless memory was short since.
+/// A reader of the lines of a text. Contracts see the units of the text. Reading the next line needs no search, unless memory was short at
+/// the last one.
 #[derive(Drop)]
 pub struct LineReader<'t> {
     view: View<'t>,
-    // How many lines come before what is left, where that is known.
+    // The number of lines before the rest, if there is a rest.
     before: u64,
     rest: Option<Rest<'t>>,
 }
@@ -38,7 +38,7 @@ impl<'t> Model for LineReader<'t> {
 }
 
 impl<'t> LineReader<'t> {
-    // A reader of the text.
+    // Makes a reader of the text.
     pub(crate) fn new(view: &View<'t>) -> LineReader<'t>
         requires { IsView view.now }
         ensures { result ≡ units_in view.now }
@@ -50,7 +50,7 @@ impl<'t> LineReader<'t> {
         }
     }
 
-    /// Appends the content of the line of this number, counted from 1. An error leaves `out` as it was.
+    /// Appends the content of a line, counted from 1. On an error `out` is unchanged.
     pub fn line(&mut self, n: u64, out: &mut Vec<u16>) -> Result<(), AllocError>
         requires first { 0 < n }
         requires there { n ≤ length (lines_of self.old) }
@@ -75,7 +75,7 @@ impl<'t> LineReader<'t> {
     }
 }
 
-// What is left from the start of line `n` on, of what is left after so many lines, if that is known.
+// Returns the rest from line `n` on. Uses the given rest after `before` lines, if possible.
 fn rest_at<'t>(view: &View<'t>, before: u64, rest: Option<Rest<'t>>, n: u64) -> Rest<'t>
     requires view { IsView view.now }
     requires rest { IfSome rest (GoesOnAfter view.now before) }
@@ -93,7 +93,7 @@ fn rest_at<'t>(view: &View<'t>, before: u64, rest: Option<Rest<'t>>, n: u64) -> 
 }
 
 impl View<'_> {
-    // Appends the content of the first line of what is left, and goes on behind it. An error may leave some of the content behind.
+    // Appends the content of the first line of the rest and moves behind that line. On an error a part of it may have been appended.
     fn push_line(&self, rest: &mut Rest<'_>, out: &mut Vec<u16>) -> Result<(), AllocError>
         requires view { IsView self.now }
         requires can { CanRead (buffers_in self.now) (pieces_left (buffers_in self.now) rest.old) }
@@ -115,7 +115,7 @@ impl View<'_> {
         Ok(())
     }
 
-    // Appends what stands in the span before its first break, and goes on behind that.
+    // Appends the part of the span before its first break and moves behind that break.
     #[tactic(auto, using(crate::proofs::LineCopies::first_inside))]
     fn push_end(
         &self,
@@ -143,7 +143,7 @@ impl View<'_> {
     }
 }
 
-// What the span has from that place in it on, if anything.
+// Returns the span from the offset `from` on; None if that is empty.
 fn part_behind(chunks: &Chunks, span: ChunkSpan, from: u64) -> Option<ChunkSpan>
     requires inside { LiesIn chunks.now.buffers span }
     requires within { from ≤ span.units }

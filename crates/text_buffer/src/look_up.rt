@@ -1,4 +1,4 @@
-//! What is looked for among the pieces, and look-ups near a piece at hand.
+//! Looks up pieces, by a search or near a given piece.
 
 ghost use Rattle.std.specs.Prelude.{◌≡◌, ◌-◌, length, List, IfSome, IsTrue};
 ghost use Rattle.piece_tree.specs.Costs.{WithinLookUps};
@@ -8,7 +8,7 @@ ghost use Rattle.text_buffer.specs.LookUps.{Has, IsThere};
 use piece_tree::{Found, PieceTree};
 use steps::Steps;
 
-/// What is looked for: the unit at an offset, or the break of a number, which counts from 1.
+/// What is sought: the unit at an offset, or the n-th break, counted from 1.
 #[derive(Clone, Copy)]
 pub(crate) enum Sought {
     Offset(u64),
@@ -16,7 +16,7 @@ pub(crate) enum Sought {
 }
 
 impl Sought {
-    /// Whether the piece has it.
+    /// Returns whether it is in the piece.
     pub(crate) fn is_in(self, found: &Found) -> bool
         ensures { IsTrue result → (entries : List Entry) → IsFound entries found.now
             → Has entries found.now self }
@@ -32,7 +32,7 @@ impl Sought {
         }
     }
 
-    /// Whether it stands before the piece.
+    /// Returns whether it is before the piece.
     pub(crate) fn is_before(self, found: &Found) -> bool {
         match self {
             Sought::Offset(offset) => offset < found.before.units,
@@ -40,7 +40,7 @@ impl Sought {
         }
     }
 
-    /// The piece that has it, by a search. Each node that is visited is a step.
+    /// Finds its piece by a search. Each visited node is a step.
     pub(crate) fn find<L>(self, pieces: &PieceTree, steps: &mut Steps<L>) -> Found
         requires { IsThere pieces.now.entries self }
         ensures has { Has pieces.now.entries result self }
@@ -53,7 +53,7 @@ impl Sought {
     }
 }
 
-/// The piece that has what is sought, by a search that nobody counts; none is made where the piece nearby has it, or the one beside that.
+/// Finds the sought piece. Makes no search if the piece `near` or the one beside it has what is sought. Steps are not counted.
 pub(crate) fn piece_near(pieces: &PieceTree, near: &Option<Found>, sought: Sought) -> Found
     requires there { IsThere pieces.now.entries sought }
     requires near { IfSome near.now (IsFound pieces.now.entries) }
@@ -66,7 +66,7 @@ pub(crate) fn piece_near(pieces: &PieceTree, near: &Option<Found>, sought: Sough
     }
 }
 
-// The piece nearby, where it has what is sought, or else the one beside it on that side, if any. Nobody counts the step.
+// Returns the piece `near` if it has what is sought, else the one beside it on the sought side, if any. Steps are not counted.
 fn piece_toward(pieces: &PieceTree, near: &Option<Found>, sought: Sought) -> Option<Found>
     requires { IfSome near.now (IsFound pieces.now.entries) }
     ensures { IfSome result (IsFound pieces.now.entries) }
@@ -78,7 +78,7 @@ fn piece_toward(pieces: &PieceTree, near: &Option<Found>, sought: Sought) -> Opt
     beside(pieces, &found, sought)
 }
 
-/// The piece beside this one, on the side where it has to stand that has what is sought, if there is one there. It makes no search.
+/// Returns the piece beside this one, on the side of what is sought, if any. Makes no search.
 pub(crate) fn beside(pieces: &PieceTree, found: &Found, sought: Sought) -> Option<Found>
     requires { IsFound pieces.now.entries found.now }
     ensures { IfSome result (IsFound pieces.now.entries) }
@@ -90,7 +90,7 @@ pub(crate) fn beside(pieces: &PieceTree, found: &Found, sought: Sought) -> Optio
     }
 }
 
-/// The first of the two pieces, where it has the unit at this offset, or else the second.
+/// Returns the first piece if it has the unit at this offset, else the second.
 pub(crate) fn nearer(first: &Option<Found>, second: &Option<Found>, offset: u64) -> Option<Found>
     ensures { (entries : List Entry) → IfSome first.now (IsFound entries)
         → IfSome second.now (IsFound entries) → IfSome result (IsFound entries) }

@@ -1,4 +1,4 @@
-//! Texts that are put into the buffers, or lie there since they were put in before.
+//! Puts texts into the buffers, or reuses them where they were put before.
 
 ghost use Rattle.std.specs.Prelude.{◌≡◌, ◌+◌, ◌<◌, ◌≤◌, ◌++◌, None, length, IfSome};
 ghost use Rattle.std.specs.Option.{ForSome};
@@ -11,8 +11,8 @@ ghost use Rattle.text_buffer.specs.Text.{IsAdded};
 use chunk_buffers::{ChunkSpan, Chunks};
 use piece_tree::{Piece, piece_of};
 
-/// The piece of the three texts as one, if they have any unit. They are appended, unless they are no more than the text and it lies
-/// at the place already. The place tells then where the text lies.
+/// Makes one piece of the three texts; None if they are empty. Appends them, unless only `text` has units and it is already at `place`.
+/// Sets `place` to where the text is now.
 pub(crate) fn put_some(
     chunks: &mut Chunks,
     before: &[u16],
@@ -49,7 +49,7 @@ pub(crate) fn put_some(
     added
 }
 
-// The piece of the text at the place, where it lies there.
+// Returns the piece of the text at `place` if the text is there.
 fn piece_there(chunks: &Chunks, text: &[u16], place: &Option<ChunkSpan>) -> Option<Piece>
     ensures none { place.now ≡ None → result ≡ None }
     ensures counted { ForSome result (IsPieceOf chunks.now.buffers) }
@@ -66,7 +66,7 @@ fn piece_there(chunks: &Chunks, text: &[u16], place: &Option<ChunkSpan>) -> Opti
     Some(piece_of(chunks, span))
 }
 
-// Where the text lies in the piece, behind what comes before it.
+// Returns the span of the text in the piece, behind `before` units.
 fn place_in(piece: Option<Piece>, before: usize, units: usize) -> Option<ChunkSpan> {
     let whole = piece?.span;
     let start = whole.start.checked_add(u32::try_from(before).ok()?)?;
@@ -77,7 +77,7 @@ fn place_in(piece: Option<Piece>, before: usize, units: usize) -> Option<ChunkSp
     })
 }
 
-// Appends the three texts as one, if they have any unit, and answers their piece.
+// Appends the three texts and returns their piece; None if they are empty.
 fn append_some(chunks: &mut Chunks, before: &[u16], text: &[u16], after: &[u16]) -> Option<Piece>
     requires room { length (before.now ++ text.now ++ after.now) < chunks.old.spare }
     requires breaks { break_count (before.now ++ text.now ++ after.now)

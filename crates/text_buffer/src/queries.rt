@@ -1,5 +1,5 @@
-//! Positions of places, and places of positions. Each node that is visited is a step: the piece at hand is asked first, then those
-//! that are remembered, and no walk goes from a piece to the one beside it.
+//! Converts between offsets and positions. Each visited node is a step. Pieces are tried in this order: the piece at hand, the remembered
+//! ones, a search. No walk goes from a piece to its neighbour.
 
 ghost use Rattle.std.specs.Prelude.{◌≡◌, ◌+◌, ◌-◌, ◌<◌, ◌≤◌, ◌&&◌, nat_le, Some, None, false, if◌then◌else◌, length, take, slice_index_or, MatchOption, IfSome};
 ghost use Rattle.chunk_buffers.specs.Chunks.{units_at, LiesIn};
@@ -21,7 +21,7 @@ use steps::Steps;
 use text_lengths::{Position, Span};
 use unit_text::Kind;
 
-/// A place of the text, with a piece that was looked up there, if any: the next look-up beside it asks that piece first.
+/// An offset of the text, and the piece that was looked up there, if any. The next look-up nearby tries that piece first.
 #[derive(Drop)]
 pub(crate) struct Place {
     pub offset: u64,
@@ -29,7 +29,7 @@ pub(crate) struct Place {
 }
 
 impl View<'_> {
-    /// The position of the offset; None where the offset is no place of the text.
+    /// Converts an offset into a position; None if the offset is invalid.
     pub(crate) fn position_at<L>(
         &self,
         kind: Kind,
@@ -54,7 +54,7 @@ impl View<'_> {
         })
     }
 
-    /// The offset of the position; None where it is no position of the text.
+    /// Converts a position into an offset; None if the position is invalid.
     pub(crate) fn offset_at<L>(&self, position: Position, steps: &mut Steps<L>) -> Option<u64>
         requires view { IsView self.now }
         ensures offset { let units = units_in self.now in
@@ -83,8 +83,7 @@ impl View<'_> {
         Some(at.offset)
     }
 
-    // The place of this offset, with the piece that has its unit, which is looked for near a piece; None where the offset is no place
-    // of the text.
+    // Returns the place of an offset, with the piece of its unit; None if the offset is invalid. The piece `near` is tried first.
     fn place_at<L>(
         &self,
         kind: Kind,
@@ -118,7 +117,7 @@ impl View<'_> {
         })
     }
 
-    /// Where the line after so many breaks starts. The last of these is looked for near a piece.
+    /// Returns the start of the line after this many breaks. The piece `near` is tried first for the last of them.
     pub(crate) fn start_after<L>(
         &self,
         near: &Option<Found>,
@@ -147,7 +146,7 @@ impl View<'_> {
         }
     }
 
-    // Where the content of the line ends that starts there. Its break is looked for in the piece that has the break before it.
+    // Returns the end of the content of a line, given its start. The piece of the break before it is tried first.
     fn content_end<L>(&self, line: u64, start: &Place, steps: &mut Steps<L>) -> Place
         requires view { IsView self.now }
         requires near { IfSome start.now.found (IsFound (entries_in self.now)) }
@@ -176,7 +175,7 @@ impl View<'_> {
         }
     }
 
-    /// Where the content of a line stands, by steps that nobody counts.
+    /// Returns the span of the content of a line. Steps are not counted.
     pub(crate) fn line_span(&self, n: u64) -> Span
         requires view { IsView self.now }
         requires first { 0 < n }
@@ -196,7 +195,7 @@ impl View<'_> {
         }
     }
 
-    /// Whether the offsets are places, by steps that nobody counts. The second is looked for where the first was found.
+    /// Returns whether both offsets are valid. The piece of the first is tried for the second. Steps are not counted.
     pub(crate) fn has_places(&self, kind: Kind, start: u64, end: u64) -> bool
         requires view { IsView self.now }
         requires kind { IsOfKind kind (units_in self.now) }
@@ -216,15 +215,24 @@ impl View<'_> {
             return true;
         }
         if end >= self.len() {
-            return end == self.len();
+            return self.is_end(kind, end);
         }
         let near = Some(first);
         let last = self.piece_at(&near, end);
         !self.cuts_beside(kind, &near, &last, end, &mut steps)
     }
+
+    // Returns whether an offset that is not below the length is valid: the length itself is.
+    fn is_end(&self, kind: Kind, offset: u64) -> bool
+        requires view { IsView self.now }
+        requires past { length (units_in self.now) ≤ offset }
+        ensures { result ≡ is_place_in kind (units_in self.now) offset }
+    {
+        offset == self.len()
+    }
 }
 
-// Whether a line of so many units ends with CR LF, whose break ends behind so many units of the piece. A CR LF lies in one piece.
+// Returns whether a line of `units` units ends with CR LF. Its break ends `own` units into the piece. A CR LF is always in one piece.
 fn ends_line_with_pair(chunks: &Chunks, found: &Found, own: u64, units: u64) -> bool
     requires inside { LiesIn chunks.now.buffers found.now.span }
     requires within { own ≤ found.now.span.units }

@@ -1,4 +1,4 @@
-//! Pieces that were looked up and are remembered.
+//! Remembered pieces, which were looked up before.
 
 ghost use Rattle.std.specs.Prelude.{◌≡◌, ◌-◌, ◌<◌, ◌≤◌, ◌++◌, ◌∷◌, List, [], length, slice_index_or, IfSome, IsTrue};
 ghost use Rattle.std.specs.List.{All};
@@ -12,22 +12,22 @@ use piece_tree::Found;
 use std::alloc::{AllocError, Global};
 use std::marker::Model;
 
-/// Room for more pieces than that is given back with them.
+/// Forgetting all frees memory with room for more pieces than this.
 const MOST_ROOM: usize = 1024;
 
-/// No more pieces than that are remembered.
+/// At most this many pieces are remembered.
 const MOST_KEPT: usize = 1 << 16;
 
-/// Of the pieces that have no order yet, so many of the last are asked.
+/// Of the pieces that are not sorted yet, at most this many of the last are tried.
 const MOST_ASKED: usize = 16;
 
-/// Looked-up pieces of one text. The settled ones come first, in the order of the text: each ends where the one before it ends, or
-/// behind that. Behind them stand those that came since, in the order in which they came.
+/// Looked-up pieces of one text. The first ones, the settled, are in the order of the text: their ends never decrease. The later ones are
+/// in the order in which they were added.
 #[derive(Drop)]
 pub(crate) struct Remembered {
     pieces: Vec<Found>,
     settled: usize,
-    /// Whether all are left of earlier edits: none came since the last one.
+    /// Whether all are left over from earlier edits: none was added since the last edit.
     are_left: bool,
 }
 
@@ -56,7 +56,7 @@ impl Remembered {
         }
     }
 
-    /// Forgets those that are left of earlier edits, where none came since and they are more than so many.
+    /// Forgets all if they are left over from earlier edits and more than `most`.
     pub(crate) fn forget_left(&mut self, most: usize)
         ensures { (entries : List Entry) → All (IsFound entries) self.old
             → All (IsFound entries) self.new }
@@ -66,14 +66,14 @@ impl Remembered {
         }
     }
 
-    /// Makes room for so many more. It fails where memory is short.
+    /// Reserves room for `count` more. Fails if memory is short.
     pub(crate) fn make_room(&mut self, count: usize) -> Result<(), AllocError>
         ensures { self.new ≡ self.old }
     {
         self.pieces.reserve(count)
     }
 
-    // Forgets all.
+    // Forgets all pieces.
     fn clear(&mut self)
         ensures { self.new ≡ [] }
     {
@@ -84,7 +84,7 @@ impl Remembered {
         }
     }
 
-    /// The last of them.
+    /// Returns the last piece.
     pub(crate) fn last(&self) -> Option<Found>
         ensures { (entries : List Entry) → All (IsFound entries) self.now
             → IfSome result (IsFound entries) }
@@ -92,7 +92,7 @@ impl Remembered {
         self.pieces.last().copied()
     }
 
-    /// That of them that has what is sought, if one is found.
+    /// Returns a piece that has what is sought, if it finds one.
     pub(crate) fn find(&self, sought: Sought) -> Option<Found>
         ensures { (entries : List Entry) → All (IsFound entries) self.now
             → IfSome result (λ found. Has entries found sought) }
@@ -106,7 +106,7 @@ impl Remembered {
         }
     }
 
-    // The last of those that came since the others were settled.
+    // Returns the last pieces that are not settled, at most `MOST_ASKED`.
     fn latest(&self) -> &[Found]
         ensures { (entries : List Entry) → All (IsFound entries) self.now
             → All (IsFound entries) result.now }
@@ -115,7 +115,7 @@ impl Remembered {
         &self.pieces[self.settled.max(from)..]
     }
 
-    /// Remembers a piece too, wherever it stands. Where memory is short, it does not.
+    /// Adds a piece, in any order. Does nothing if memory is short.
     pub(crate) fn add(&mut self, found: &Found)
         ensures { (entries : List Entry) → All (IsFound entries) self.old
             → IsFound entries found.now → All (IsFound entries) self.new }
@@ -127,7 +127,7 @@ impl Remembered {
         self.are_left = false;
     }
 
-    /// The same, unless it is remembered already.
+    /// Adds a piece, unless it is remembered already.
     pub(crate) fn note(&mut self, found: &Found)
         ensures { (entries : List Entry) → All (IsFound entries) self.old
             → IsFound entries found.now → All (IsFound entries) self.new }
@@ -137,7 +137,7 @@ impl Remembered {
         }
     }
 
-    /// Puts all in the order of the text.
+    /// Sorts all pieces in the order of the text.
     pub(crate) fn settle(&mut self)
         ensures { (entries : List Entry) → All (IsFound entries) self.old
             → All (IsFound entries) self.new }
@@ -148,8 +148,8 @@ impl Remembered {
         }
     }
 
-    /// Forgets those that do not end before the offset, from which on the text has changed, and those that have no order. It remembers
-    /// a piece that the text has there now, where there is room for it.
+    /// Forgets the pieces that end at or after the offset, from which on the text has changed, and those that are not settled. Adds the
+    /// piece `told`, which is in the text now, if there is room for it.
     pub(crate) fn change_from(&mut self, offset: u64, told: Option<Found>)
         ensures { (old new : List Entry) → All (IsFound old) self.old → KeepsBefore old new offset
             → IfSome told (IsFound new) → All (IsFound new) self.new }
@@ -170,7 +170,7 @@ impl Remembered {
         self.pieces.truncate(self.settled);
     }
 
-    // Remembers a piece too, where there is room for it.
+    // Adds a piece if there is room for it.
     fn push_in_room(&mut self, found: &Found)
         ensures { (entries : List Entry) → All (IsFound entries) self.old
             → IsFound entries found.now → All (IsFound entries) self.new }
@@ -180,7 +180,7 @@ impl Remembered {
         }
     }
 
-    // Remembers a piece too, unless memory is short.
+    // Adds a piece. Does nothing if memory is short.
     fn push(&mut self, found: &Found)
         ensures { (entries : List Entry) → All (IsFound entries) self.old
             → IsFound entries found.now → All (IsFound entries) self.new }
@@ -191,7 +191,7 @@ impl Remembered {
         }
     }
 
-    // Whether all have their order, and the piece stands behind them.
+    // Returns whether all pieces are settled and this one comes after them.
     fn goes_on_with(&self, found: &Found) -> bool
         ensures { IsTrue result → IsNonDecreasingBy end_of (self.now ++ found.now ∷ []) }
     {
@@ -202,7 +202,7 @@ impl Remembered {
     }
 }
 
-// One of the pieces that has what is sought, if there is one.
+// Returns one of the pieces that has what is sought, if any.
 fn one_with(pieces: &[Found], sought: Sought) -> Option<Found>
     ensures { (entries : List Entry) → All (IsFound entries) pieces.now
         → IfSome result (λ found. Has entries found sought) }
@@ -215,7 +215,7 @@ fn one_with(pieces: &[Found], sought: Sought) -> Option<Found>
     None
 }
 
-// Whether the last of the pieces ends at the offset or before it.
+// Returns whether the last piece ends at or before the offset.
 fn end_by(pieces: &[Found], offset: u64) -> bool
     ensures { IsTrue result → (d : Found) → 0 < length pieces.now
         → end_of (slice_index_or pieces.now (length pieces.now - 1) d) ≤ offset }
@@ -226,7 +226,7 @@ fn end_by(pieces: &[Found], offset: u64) -> bool
     end_of(last) <= u128::from(offset)
 }
 
-// Where the piece ends.
+// Returns where the piece ends.
 fn end_of(piece: &Found) -> u128
     ensures { result ≡ end_of piece.now }
 {

@@ -1,4 +1,4 @@
-//! What is left of a text from a place on.
+//! The rest of a text from an offset on.
 
 ghost use Rattle.std.specs.Prelude.{◌≡◌, ◌∷◌, ◌+◌, ◌-◌, ◌≤◌, [], None, length, MatchOption, IfSome};
 ghost use Rattle.std.specs.Option.{ForNone};
@@ -12,7 +12,7 @@ use chunk_buffers::ChunkSpan;
 use piece_tree::{Found, PieceTree, PieceWalk};
 use steps::Steps;
 
-/// What is left of a text: what is left of a piece, if anything, and the pieces behind it.
+/// The rest of a text: the rest of a piece, if any, and the pieces after it.
 #[derive(Drop)]
 pub(crate) struct Rest<'t> {
     pub first: Option<ChunkSpan>,
@@ -20,7 +20,7 @@ pub(crate) struct Rest<'t> {
 }
 
 impl<'t> View<'t> {
-    /// What is left from the offset on, by one search at most. The piece that has the unit there is looked for near a piece.
+    /// Returns the rest from the offset on, with at most one search. The piece `near` is tried first.
     pub(crate) fn rest_from(&self, near: &Option<Found>, offset: u64) -> Rest<'t>
         requires view { IsView self.now }
         requires near { IfSome near.now (IsFound (entries_in self.now)) }
@@ -45,7 +45,7 @@ impl<'t> View<'t> {
     }
 }
 
-// A walk over the pieces behind a looked-up one.
+// Walks over the pieces after this one.
 fn walk_behind<'t>(pieces: &'t PieceTree, found: &Found) -> PieceWalk<'t>
     requires { IsFound pieces.now.entries found.now }
     ensures left { AreBehind pieces.now.entries found.now result.left }
@@ -58,7 +58,7 @@ fn walk_behind<'t>(pieces: &'t PieceTree, found: &Found) -> PieceWalk<'t>
 }
 
 impl Rest<'_> {
-    /// The next span, which is taken from what is left; None where nothing is. Each node that is visited is a step.
+    /// Takes the next span from the rest; None if nothing is left. Each visited node is a step.
     pub(crate) fn next<L>(&mut self, steps: &mut Steps<L>) -> Option<ChunkSpan>
         ensures span { MatchOption result (spans_left self.old ≡ [])
             (λ span. spans_left self.old ≡ span ∷ spans_left self.new) }

@@ -1,18 +1,22 @@
-//! Room for edits: what is asked for, and what an edit may take.
+//! The room that edits need.
 
 ghost use Rattle.std.specs.Prelude.{◌≡◌, ◌+◌, ◌*◌, IfOk};
 ghost use Rattle.text_buffer.specs.Room.{units_beside_text, breaks_beside_text};
 
 use crate::beside::{MOST_ALONG, MOST_BREAKS_ALONG};
+use piece_tree::MOST_PIECES;
 use std::alloc::AllocError;
 
-/// What an edit may append beside its text: what it takes along on both sides, and a unit that keeps buffers apart.
+/// The most units that an edit appends beside its text: those taken along on both sides, and one that separates buffers.
 pub(crate) const UNITS_AN_EDIT: u64 = 2 * MOST_ALONG as u64 + 1;
 
-/// What breaks an edit may append beside those of its text: those of what it takes along.
+/// The most breaks that an edit appends beside those of its text.
 pub(crate) const BREAKS_AN_EDIT: u64 = 2 * MOST_BREAKS_ALONG;
 
-/// What edits ask for: how many they are, and how many units and breaks their texts have together.
+/// The most units that are rewritten after an edit.
+pub const MOST_REWRITTEN: usize = 16 * MOST_PIECES;
+
+/// The room that edits need: their number, and the units and breaks of all their texts.
 #[derive(Clone, Copy)]
 pub struct Need {
     pub edits: u64,
@@ -21,14 +25,23 @@ pub struct Need {
 }
 
 impl Need {
-    /// The most units that the edits append.
+    /// Returns the need of these edits together with that of rewriting pieces. The numbers saturate.
+    pub(crate) fn with_rewriting(self) -> Need {
+        Need {
+            edits: self.edits.saturating_add(1),
+            units: self.units.saturating_add(MOST_REWRITTEN as u64),
+            breaks: self.breaks.saturating_add(MOST_REWRITTEN as u64),
+        }
+    }
+
+    /// Returns the most units that the edits append.
     pub(crate) fn most_units(self) -> Result<u64, AllocError>
         ensures { IfOk result (λ all. all ≡ self.units + units_beside_text * self.edits) }
     {
         with_edits(self.units, self.edits, UNITS_AN_EDIT)
     }
 
-    /// The most breaks that the edits append.
+    /// Returns the most breaks that the edits append.
     pub(crate) fn most_breaks(self) -> Result<u64, AllocError>
         ensures { IfOk result (λ all. all ≡ self.breaks + breaks_beside_text * self.edits) }
     {
@@ -36,7 +49,7 @@ impl Need {
     }
 }
 
-// This many, and so many more for each edit.
+// Returns `own` plus `each` for every edit.
 fn with_edits(own: u64, edits: u64, each: u64) -> Result<u64, AllocError>
     ensures { IfOk result (λ all. all ≡ own + each * edits) }
 {

@@ -1,4 +1,4 @@
-//! The units of a text from a place on, run by run.
+//! Reads the units of a text from an offset on, run by run.
 
 ghost use Rattle.std.specs.Prelude.{◌≡◌, ◌∷◌, ◌+◌, ◌-◌, ◌<◌, ◌≤◌, ◌++◌, [], length, take, drop, min, vec_len, vec_capacity, MatchOption, IfSome};
 ghost use Rattle.std.specs.List.{concat};
@@ -15,8 +15,8 @@ use steps::Steps;
 use text_lengths::Span;
 use unit_text::Reader;
 
-/// A reader of a text from a place on. Contracts see the runs that it has not given yet, and how many more steps than three for each
-/// of them it may still take. Each run is a piece of the text, or what is left of one: a reader makes one search at most.
+/// A reader of a text from an offset on. Each run is a piece, or the rest of one. The reader makes at most one search. Contracts see the
+/// remaining runs, and how many steps it may still take beyond three for each run.
 #[derive(Drop)]
 pub struct Runs<'t> {
     chunks: &'t Chunks,
@@ -34,7 +34,7 @@ impl<'t> Model for Runs<'t> {
 }
 
 impl<'t> Runs<'t> {
-    // A reader of the text from the offset on.
+    // Makes a reader of the text from the offset on.
     #[tactic(auto, using(crate::proofs::Reading::starting))]
     pub(crate) fn new(view: &View<'t>, offset: u64) -> Runs<'t>
         requires view { IsView view.now }
@@ -49,7 +49,7 @@ impl<'t> Runs<'t> {
         }
     }
 
-    /// The next units; None where none is left. Each node that is visited is a step.
+    /// Returns the next run of units; None at the end. Each visited node is a step.
     #[tactic(auto, using(crate::proofs::Reading::reads_on))]
     pub fn next_counted<L>(&mut self, steps: &mut Steps<L>) -> Option<&'t [u16]>
         ensures run { MatchOption result (self.old.left ≡ [])
@@ -62,7 +62,7 @@ impl<'t> Runs<'t> {
         Some(self.chunks.units(span))
     }
 
-    /// `next_counted`, with steps that nobody counts.
+    /// Like `next_counted`, without counting steps.
     pub fn next(&mut self) -> Option<&'t [u16]>
         ensures run { MatchOption result (self.old.left ≡ [])
             (λ run. self.old.left ≡ run.now ∷ self.new.left) }
@@ -73,7 +73,7 @@ impl<'t> Runs<'t> {
         self.next_counted(&mut Steps::new())
     }
 
-    /// Reads the next units into `out`: as many as fit and are there. Answers how many.
+    /// Reads the next units into `out`, as many as fit. Returns their number.
     pub(crate) fn read_into(&mut self, out: &mut [u16]) -> usize
         ensures count { result ≡ min (length out.old) (length (concat self.old.left)) }
         ensures units { out.new ≡ take result (concat self.old.left) ++ drop result out.old }
@@ -98,7 +98,7 @@ impl<'t> Reader<'t> for Runs<'t> {
 }
 
 impl View<'_> {
-    /// Appends the units of the span, for which there is room.
+    /// Appends the units of the span. Room for them is reserved.
     pub(crate) fn push_span(&self, span: Span, out: &mut Vec<u16>)
         requires view { IsView self.now }
         requires ordered { span.start ≤ span.end }
@@ -121,7 +121,7 @@ impl View<'_> {
     }
 }
 
-// Appends the first units, that many at most, for which there is room. Answers how many there were.
+// Appends the first units, at most `most`. Room for them is reserved. Returns their number.
 fn push_first(units: &[u16], most: u64, out: &mut Vec<u16>) -> u64
     requires { vec_len out.old + most ≤ vec_capacity out.old }
     ensures count { result ≡ min most (length units.now) }
@@ -133,7 +133,7 @@ fn push_first(units: &[u16], most: u64, out: &mut Vec<u16>) -> u64
     count
 }
 
-// Copies the first units to that place of `out`, as many as fit. Answers how many.
+// Copies as many units as fit into `out` from the index `at` on. Returns their number.
 fn copy_at(units: &[u16], at: usize, out: &mut [u16]) -> usize
     requires { at ≤ length out.old }
     ensures count { result ≡ min (length units.now) (length out.old - at) }

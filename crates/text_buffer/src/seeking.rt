@@ -1,4 +1,4 @@
-//! The pieces that edits will ask for, each looked up once.
+//! Looks up the pieces that edits will need, each once.
 
 ghost use Rattle.std.specs.Prelude.{IfSome};
 ghost use Rattle.std.specs.List.{All};
@@ -11,25 +11,24 @@ use piece_tree::{Found, PieceTree};
 use text_lengths::Span;
 use text_rules::Op;
 
-/// Through so many pieces a line is followed to its end; that of a longer one is searched for.
+/// A line is followed through at most this many pieces. The end of a longer line is found by a search.
 const MOST_FOLLOWED: usize = 8;
 
-/// No more pieces than that are kept from one edit to the look-ups of lines for the next.
+/// At most this many pieces are kept from one edit to the look-ups of lines for the next.
 const MOST_LEFT: usize = 8;
 
-/// Remembers the pieces that have the units at the ends of the ops' spans, beside those that were located before. Where there is no
-/// memory for it, none of these is remembered.
+/// Remembers the pieces at the ends of the ops' spans, in addition to those located before. If memory is short, it adds none of them.
 pub(crate) fn look_up_all(pieces: &PieceTree, ops: &[Op], remembered: &mut Remembered)
     requires { All (IsFound pieces.now.entries) remembered.old }
     ensures { All (IsFound pieces.now.entries) remembered.new }
 {
-    // The text may go on where it was changed last.
+    // The next edit may be where the last one was.
     let near = remembered.last();
     remembered.forget_left(0);
     if remembered.make_room(ops.len().saturating_mul(2)).is_err() {
         return;
     }
-    // What was located came in any order.
+    // Located pieces may be in any order.
     remembered.settle();
     for op in ops {
         look_up_ends(pieces, &near, op.span, remembered);
@@ -37,7 +36,7 @@ pub(crate) fn look_up_all(pieces: &PieceTree, ops: &[Op], remembered: &mut Remem
     remembered.settle();
 }
 
-/// Looks up the pieces at both ends of a span, unless it is turned round.
+/// Looks up the pieces at both ends of a span, unless its start is above its end.
 fn look_up_ends(pieces: &PieceTree, other: &Option<Found>, span: Span, remembered: &mut Remembered)
     requires other { IfSome other.now (IsFound pieces.now.entries) }
     requires remembered { All (IsFound pieces.now.entries) remembered.old }
@@ -49,7 +48,7 @@ fn look_up_ends(pieces: &PieceTree, other: &Option<Found>, span: Span, remembere
     }
 }
 
-/// Remembers the piece that has the unit at this offset, if there is one.
+/// Remembers the piece of the unit at this offset, if there is one.
 pub(crate) fn look_up_unit(
     pieces: &PieceTree,
     other: &Option<Found>,
@@ -65,8 +64,8 @@ pub(crate) fn look_up_unit(
     }
 }
 
-/// Remembers the pieces of the line of this number, counted from 1, from that of the break before it to that of its own, if there is
-/// such a line and they are few.
+/// Remembers the pieces of a line, counted from 1, from the piece of the break before it to that of its own break. Does so only if the line
+/// exists and the pieces are few.
 pub(crate) fn look_up_line(pieces: &PieceTree, line: u64, remembered: &mut Remembered)
     requires { All (IsFound pieces.now.entries) remembered.old }
     ensures { All (IsFound pieces.now.entries) remembered.new }
@@ -82,7 +81,7 @@ pub(crate) fn look_up_line(pieces: &PieceTree, line: u64, remembered: &mut Remem
     }
 }
 
-// Remembers the pieces behind this one, as far as the line goes on in them, if they are few.
+// Remembers the pieces after this one that are part of the line, if they are few.
 fn follow_line(pieces: &PieceTree, first: Found, line: u64, remembered: &mut Remembered)
     requires first { IsFound pieces.now.entries first }
     requires remembered { All (IsFound pieces.now.entries) remembered.old }
@@ -102,7 +101,7 @@ fn follow_line(pieces: &PieceTree, first: Found, line: u64, remembered: &mut Rem
     }
 }
 
-// The piece that has what is sought. It is looked up near the one that came last, or else near another, and is remembered.
+// Returns the piece that has what is sought, and remembers it. Searches near the last remembered piece, or else near `other`.
 fn look_up(
     pieces: &PieceTree,
     other: &Option<Found>,

@@ -18,6 +18,8 @@ ghost use Rattle.text_buffer.specs.Room.{IsEnough, KeepsRoom, HasSpent, need_of_
 ghost use Rattle.text_buffer.specs.Text.{text_of, GrowsAt};
 ghost use Rattle.text_buffer.specs.Views.{IsView};
 
+mod rewriting;
+
 use crate::beside::units_along;
 use crate::lines::LineReader;
 use crate::put::put_some;
@@ -108,9 +110,25 @@ impl TextBuffer {
         })
     }
 
-    /// Makes room for the edits. It fails where memory is short, and where these have 2^32 units or more. An error leaves the text as it
-    /// was.
+    /// Makes room for the edits, and where there is memory for it also for pieces that `rewrite_crowded` writes anew after them. It fails
+    /// where memory is short for the edits, and where these have 2^32 units or more. An error leaves the text as it was.
     pub fn reserve(&mut self, need: Need) -> Result<(), AllocError>
+        ensures room { OnOk result (IsEnough self.new.room need) }
+        ensures kept { KeepsRoom self.old.room self.new.room }
+        ensures same { self.new.units ≡ self.old.units }
+        ensures kind { self.new.kind ≡ self.old.kind }
+        ensures spans { self.new.spans ≡ self.old.spans }
+        ensures grown { Extends self.old.buffers self.new.buffers }
+        ensures appended { unit_count self.new.buffers ≡ unit_count self.old.buffers }
+    {
+        self.make_room(need)?;
+        // Where memory is short, no pieces are written anew.
+        let _more = self.make_room(need.with_rewriting());
+        Ok(())
+    }
+
+    // Makes room for these edits alone.
+    fn make_room(&mut self, need: Need) -> Result<(), AllocError>
         ensures room { OnOk result (IsEnough self.new.room need) }
         ensures kept { KeepsRoom self.old.room self.new.room }
         ensures same { self.new.units ≡ self.old.units }

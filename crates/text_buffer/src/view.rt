@@ -1,4 +1,4 @@
-//! A text to read, and look-ups of its pieces. Each node that a counted look-up visits is a step.
+//! A text to be read, and look-ups of its pieces. Each node that a counted look-up visits is a step.
 
 ghost use Rattle.std.specs.Prelude.{◌≡◌, ◌+◌, ◌-◌, ◌<◌, ◌≤◌, ◌^◌, length, take, drop, slice_index, IfSome};
 ghost use Rattle.std.specs.Char.Utf16.{is_low_surrogate};
@@ -19,7 +19,7 @@ use piece_tree::{Found, PieceTree};
 use steps::Steps;
 use unit_text::{Kind, LINE_FEED, cuts_pair};
 
-/// A text to read: its pieces, the buffers in which they lie, and the pieces that are remembered.
+/// A text to be read: its pieces, their buffers and the remembered pieces.
 #[derive(Clone, Copy)]
 pub(crate) struct View<'t> {
     pub pieces: &'t PieceTree,
@@ -28,7 +28,7 @@ pub(crate) struct View<'t> {
 }
 
 impl<'t> View<'t> {
-    /// How many units the text has.
+    /// Returns the length of the text in units.
     #[tactic(auto, using(crate::proofs::Found::sizes))]
     pub(crate) fn len(&self) -> u64
         requires view { IsView self.now }
@@ -39,7 +39,7 @@ impl<'t> View<'t> {
         self.pieces.len()
     }
 
-    /// How many lines the text has.
+    /// Returns the number of lines.
     #[tactic(auto, using(crate::proofs::Found::sizes))]
     pub(crate) fn line_count(&self) -> u64
         requires view { IsView self.now }
@@ -49,7 +49,7 @@ impl<'t> View<'t> {
         self.pieces.breaks() + 1
     }
 
-    /// How many breaks the text has.
+    /// Returns the number of breaks.
     #[tactic(auto, using(crate::proofs::Found::sizes))]
     pub(crate) fn breaks(&self) -> u64
         requires view { IsView self.now }
@@ -60,7 +60,7 @@ impl<'t> View<'t> {
         self.pieces.breaks()
     }
 
-    /// How many breaks end at the offset or before it, where the piece has the unit there.
+    /// Returns how many breaks end at or before the offset. The piece has its unit.
     pub(crate) fn breaks_to(&self, found: &Found, offset: u64) -> u64
         requires view { IsView self.now }
         requires unit { HasUnit (entries_in self.now) found.now offset }
@@ -72,8 +72,8 @@ impl<'t> View<'t> {
         found.before.breaks + self.chunks.breaks_to(found.span, own)
     }
 
-    /// The piece that has the unit at this offset: the piece nearby, one that is remembered, the one beside the piece nearby, or else
-    /// by a search that nobody counts.
+    /// Returns the piece of the unit at this offset. Tries the piece `near`, the remembered ones and the one beside `near` before a search.
+    /// Steps are not counted.
     pub(crate) fn piece_at(&self, near: &Option<Found>, offset: u64) -> Found
         requires view { IsView self.now }
         requires offset { offset < unit_count (pieces_of (entries_in self.now)) }
@@ -87,7 +87,7 @@ impl<'t> View<'t> {
         }
     }
 
-    /// The piece that has the first unit; None where the text has no unit.
+    /// Returns the piece of the first unit; None if the text is empty.
     pub(crate) fn first_piece(&self) -> Option<Found>
         requires view { IsView self.now }
         ensures { StandsAt (entries_in self.now) result 0 }
@@ -98,7 +98,7 @@ impl<'t> View<'t> {
         Some(self.piece_at(&None, 0))
     }
 
-    /// The piece that has what is sought: the piece nearby, one that is remembered, or else by a search.
+    /// Returns the piece that has what is sought. Tries the piece `near` and the remembered ones before a search.
     pub(crate) fn piece_with<L>(
         &self,
         near: &Option<Found>,
@@ -117,7 +117,7 @@ impl<'t> View<'t> {
         }
     }
 
-    // The piece nearby or a remembered one, where it has what is sought.
+    // Returns the piece `near` or a remembered one if it has what is sought.
     fn at_hand(&self, near: &Option<Found>, sought: Sought) -> Option<Found>
         requires view { IsView self.now }
         requires near { IfSome near.now (IsFound (entries_in self.now)) }
@@ -129,7 +129,7 @@ impl<'t> View<'t> {
         }
     }
 
-    /// The unit at an offset that the piece has.
+    /// Returns the unit at an offset in the piece.
     #[tactic(auto, using(crate::proofs::Found::units_of_piece))]
     pub(crate) fn unit_in(&self, found: &Found, offset: u64) -> u16
         requires view { IsView self.now }
@@ -139,7 +139,7 @@ impl<'t> View<'t> {
         self.chunks.units(self.span_in(found))[(offset - found.before.units) as usize]
     }
 
-    /// The units from the offset to the end of their piece.
+    /// Returns the units from the offset to the end of its piece.
     #[tactic(auto, using(crate::proofs::Found::run_sizes))]
     pub(crate) fn run_at(&self, offset: u64) -> &'t [u16]
         requires view { IsView self.now }
@@ -152,7 +152,7 @@ impl<'t> View<'t> {
         &self.chunks.units(self.span_in(&found))[(offset - found.before.units) as usize..]
     }
 
-    // The span of a looked-up piece.
+    // Returns the span of a looked-up piece.
     fn span_in(&self, found: &Found) -> ChunkSpan
         requires view { IsView self.now }
         requires piece { IsFound (entries_in self.now) found.now }
@@ -162,7 +162,7 @@ impl<'t> View<'t> {
         found.span
     }
 
-    /// The part of the piece between two places in it.
+    /// Returns the part of the piece between two offsets in it.
     pub(crate) fn part_in(&self, found: &Found, from: u64, to: u64) -> ChunkSpan
         requires view { IsView self.now }
         requires piece { IsFound (entries_in self.now) found.now }
@@ -176,8 +176,8 @@ impl<'t> View<'t> {
         self.chunks.part(self.span_in(found), from, to)
     }
 
-    /// Whether the offset, whose unit the piece has, stands inside a pair of surrogates. One search is made for the unit before it where
-    /// a pair may end at the very start of that piece, and neither the piece nearby nor a remembered one has that unit.
+    /// Returns whether the offset is inside a surrogate pair. `found` is the piece of its unit. Makes one search at most: for the unit
+    /// before it, if a pair may end at the very start of that piece.
     pub(crate) fn cuts_pair_beside<L>(
         &self,
         near: &Option<Found>,
@@ -201,8 +201,8 @@ impl<'t> View<'t> {
         cuts_pair(&[before, unit], 1)
     }
 
-    /// Whether the offset, whose unit the piece has, stands inside a pair of surrogates or, in a text of kind CR LF, inside a line
-    /// ending. A search is made for the first alone.
+    /// Returns whether the offset is inside a surrogate pair or, with kind CR LF, inside a line ending. `found` is the piece of its unit.
+    /// Only the test for a surrogate pair may make a search.
     pub(crate) fn cuts_beside<L>(
         &self,
         kind: Kind,
@@ -224,8 +224,8 @@ impl<'t> View<'t> {
         self.cuts_pair_beside(near, found, offset, steps)
     }
 
-    /// The piece that has the `n`-th break, and how many of its units stand up to the end of that break: the piece at hand, one that is
-    /// remembered, or else by a search. Breaks count from 1.
+    /// Returns the piece of the `n`-th break, counted from 1, and how many of its units precede the end of that break. Tries the piece
+    /// `near` and the remembered ones before a search.
     pub(crate) fn break_at<L>(
         &self,
         near: &Option<Found>,

@@ -7,7 +7,7 @@ use std::io::ErrorKind;
 use std::process::ExitCode;
 use std::{env, io};
 
-/// The status where there is no memory for the words.
+/// The exit status if there is no memory for the arguments.
 const NO_MEMORY: u8 = 3;
 
 fn main(rt: HostRuntime) -> ExitCode {
@@ -17,13 +17,13 @@ fn main(rt: HostRuntime) -> ExitCode {
     let status = match words_of(&rt) {
         Ok(words) => run_words(rt.alloc(), words.as_slice(), &mut src, &mut out, &mut err),
         Err(fault) if fault.kind() == ErrorKind::OutOfMemory => NO_MEMORY,
-        // Words that are no text are no command.
+        // Arguments that are not valid text are no command.
         Err(_) => run_words(rt.alloc(), &[], &mut src, &mut out, &mut err),
     };
     ExitCode::from(status)
 }
 
-/// The words of the command line, without the program's name.
+/// Returns the arguments of the command line, without the program's name.
 fn words_of(rt: &HostRuntime) -> io::Result<Vec<String>> {
     let mut args = env::args(rt)?;
     let _name = args.next();

@@ -20,7 +20,7 @@ line = 0x61 ∷ 0xE9 ∷ 0x20AC ∷ []
 at_its_end : column_before Utf8 line 3 ≡ Some 6
 at_its_end = refl
 
--- in a mixed document a CR may stand behind it, and an LF behind that
+-- in a mixed document the offset between a CR and its LF is valid: one beyond the content
 between_cr_and_lf : column_before Utf8 line 4 ≡ Some 7
 between_cr_and_lf = refl
 
@@ -55,7 +55,7 @@ back_from_inside = refl
 
 -- ---- edits of several documents
 
--- so many units take the place of a span of the document
+-- an edit that replaces a span of the document by `units` units
 abbrev edit : ℕ → ℕ → ℕ → ℕ → DocOp
 edit doc start end units = record { doc = doc; start = start; end = end; units = units; force = false }
 
@@ -65,7 +65,7 @@ put start end text = record { span = span start end; text = text; force = false 
 abbrev batch : ℕ → List Op → FlatBatch
 batch doc ops = record { doc = doc; ops = ops }
 
--- those of one document that stand side by side are its batch
+-- adjacent edits of one document are one batch
 batches : batches_of (edit 3 0 1 1 ∷ edit 3 4 4 2 ∷ edit 5 0 0 1 ∷ []) (0x61 ∷ 0x62 ∷ 0x63 ∷ 0x64 ∷ [])
     ≡ Ok (batch 3 (put 0 1 (0x61 ∷ []) ∷ put 4 4 (0x62 ∷ 0x63 ∷ []) ∷ []) ∷ batch 5 (put 0 0 (0x64 ∷ []) ∷ []) ∷ [])
 batches = refl

@@ -1,4 +1,4 @@
--- Which edit or decoration a call was refused for.
+-- For which edit or decoration a call was refused.
 use Rattle.std.specs.Prelude.{◌≡◌, ℕ, suc, ◌-◌, ◌<◌, ◌==◌, ◌||◌, Bool, true, false, nat_lt, if◌then◌else◌, List, [], ◌∷◌, length, map, filter, take, Option, Some, None, Result, Ok, Err, ⊤}
 use Rattle.std.specs.List.{list_any}
 use Rattle.text_rules.specs.declared.Op.{Op}
@@ -21,7 +21,7 @@ use Rattle.textmodel_c.specs.Rules.{span, new_deco_of}
 use Rattle.textmodel_c.specs.Statuses.{number_of}
 use Rattle.textmodel_c.specs.Told.{Called, CalledOn, Numbers}
 
--- the statuses that an edit or a decoration may be at fault for, by their numbers; any other is as good as `Ok`
+-- the statuses for which an edit or a decoration may be at fault, by their numbers; all others give `Ok`
 abbrev pub refusal_of : ℕ → Status
 refusal_of number =
     if number == number_of status.Unknown then status.Unknown else
@@ -30,14 +30,14 @@ refusal_of number =
 
 -- ---- joint edits
 
--- the documents of the ops in turn, where adjacent ops of one document count once
+-- the documents of the ops in order, where adjacent ops of one document count once
 abbrev pub docs_in_turn : List DocOp → List ℕ
 docs_in_turn [] = []
 docs_in_turn (op ∷ []) = op.doc ∷ []
 docs_in_turn (op ∷ next ∷ ops) =
     if op.doc == next.doc then docs_in_turn (next ∷ ops) else op.doc ∷ docs_in_turn (next ∷ ops)
 
--- the texts of the ops pass the end of a joined text that is so long
+-- the texts of the ops have more than `left` units
 abbrev pub pass_end : ℕ → List DocOp → Bool
 pass_end left [] = false
 pass_end left (op ∷ ops) = nat_lt left op.units || pass_end (left - op.units) ops
@@ -62,25 +62,25 @@ overlap_on doc ops = overlap (sorted_ops (spans_on doc ops))
 abbrev pub some_overlap : List DocOp → Bool
 some_overlap ops = list_any (λ doc. overlap_on doc ops) (docs_in_turn ops)
 
--- The one at this place is the first for which this is so of those up to it.
+-- `so` holds of the first n + 1 items, and not of the first n
 pub record IsFirst {A : Type 0} (so : List A → Bool) (xs : List A) (n : ℕ) : Type 0 where
   pub within : n < length xs
   pub before : so (take n xs) ≡ false
   pub there : so (take (suc n) xs) ≡ true
 
--- the first one for which this is so of those up to it; none, where it is not so of all of them
+-- the index of the first item with which `so` holds of the items up to it; None if it does not hold of all items
 abbrev pub FindsFirst : {A : Type 0} → (List A → Bool) → List A → Option ℕ → Type 0
 FindsFirst so xs None = so xs ≡ false
 FindsFirst so xs (Some n) = IsFirst so xs n
 
--- a joint edit of these ops is refused so by the edit at this place: with those before it, it would not be
+-- the edit with this index is at fault: the edits before it would not be refused with this status
 abbrev pub IsAtFault : Status → FlatGroup → ℕ → List DocOp → ℕ → Type 0
 IsAtFault status.Unknown g left ops n = IsFirst (λ ops. names_badly (docs_in_turn ops)) ops n
 IsAtFault status.Range g left ops n = IsFirst (λ ops. pass_end left ops || list_any (has_bad_span g) ops) ops n
 IsAtFault status.Overlap g left ops n = IsFirst some_overlap ops n
 IsAtFault s g left ops n = ⊥
 
--- by none of them alone
+-- no single edit is at fault for this status
 abbrev pub NoneIsAtFault : Status → FlatGroup → ℕ → List DocOp → Type 0
 NoneIsAtFault status.Unknown g left ops = names_badly (docs_in_turn ops) ≡ false
 NoneIsAtFault status.Range g left ops = (pass_end left ops || list_any (has_bad_span g) ops) ≡ false
@@ -91,13 +91,13 @@ abbrev pub FindsEdit : Status → FlatGroup → ℕ → List DocOp → Option �
 FindsEdit why g left ops None = NoneIsAtFault why g left ops
 FindsEdit why g left ops (Some n) = IsAtFault why g left ops n
 
--- the place that was found is handed out
+-- the index that was found is stored, if any
 abbrev pub TellsPlace : {E : Type 0} → Result (Option ℕ) E → Status → ℕ → ℕ → Type 0
 TellsPlace (Ok (Some n)) s out out' = (s ≡ status.Ok) × (out' ≡ n)
 TellsPlace (Ok None) s out out' = (s ≡ status.Nothing) × (out' ≡ out)
 TellsPlace (Err e) s out out' = (s ≡ status.Memory) × (out' ≡ out)
 
--- the place of the edit is told, or that there is none, or that memory is short
+-- the index of the edit is stored, or there is none, or memory is short
 abbrev pub EditAtFault : Status → Status → FlatGroup → ℕ → List DocOp → ℕ → ℕ → Type 0
 EditAtFault status.Ok why g left ops out out' = IsAtFault why g left ops out'
 EditAtFault status.Nothing why g left ops out out' = NoneIsAtFault why g left ops × (out' ≡ out)
@@ -110,7 +110,7 @@ EditAtFaultHeld n why held left ops out out' = Called n held (out' ≡ out)
 
 -- ---- decorations
 
--- so many decorations of which one is to be removed are refused so, by the one at this place; the same of one to be added
+-- the decoration with this index, in the list to remove or to add, is at fault for this status
 abbrev pub DecoIsAtFault : Status → FlatState → ℕ → List ℕ → List NewDecoration → ℕ → Type 0
 DecoIsAtFault status.Unknown f owner remove add n = IsFirst (is_unknown f.decorations.marks owner) remove n
 DecoIsAtFault status.Range f owner remove add n = IsFirst (list_any (λ new. is_bad f.kind f.units (new_deco_of new))) add n

@@ -1,4 +1,4 @@
--- The batches of ops of several documents, and what a call does that carries them out.
+-- The batches of the ops of a joint edit, and what the call does.
 use Rattle.std.specs.Prelude.{◌≡◌, ◌⊎◌, ℕ, ◌<◌, ◌==◌, ◌||◌, not, nat_lt, Bool, true, false, if◌then◌else◌, List, [], ◌∷◌, ◌++◌, length, map, take, drop, Option, Result, Ok, Err, ⊤}
 use Rattle.std.specs.declared.vec.Vec.{Vec}
 use Rattle.std.specs.declared.alloc.Global.{Global}
@@ -28,7 +28,7 @@ doc_op_of op text = record { span = span op.start op.end; text = text; force = o
 abbrev pub one_op_batch : ℕ → Op → FlatBatch
 one_op_batch doc op = record { doc = doc; ops = op ∷ [] }
 
--- The op is one more of the batch where that is of its document, else the first of a batch behind it.
+-- Appends the op to the batch if it is for the same document. Otherwise begins a new batch with it.
 abbrev pub batch_with : FlatBatch → ℕ → Op → List FlatBatch
 batch_with b doc op =
     if b.doc == doc then record { doc = b.doc; ops = b.ops ++ op ∷ [] } ∷ [] else b ∷ one_op_batch doc op ∷ []
@@ -39,13 +39,13 @@ ends_in [] doc = false
 ends_in (b ∷ []) doc = b.doc == doc
 ends_in (b ∷ c ∷ batches) doc = ends_in (c ∷ batches) doc
 
--- the op joins the last one of these batches so
+-- the batches with this op added at the end
 abbrev pub with_op : List FlatBatch → ℕ → Op → List FlatBatch
 with_op [] doc op = one_op_batch doc op ∷ []
 with_op (b ∷ []) doc op = batch_with b doc op
 with_op (b ∷ c ∷ batches) doc op = b ∷ with_op (c ∷ batches) doc op
 
--- these batches and then the ops, whose texts stand one after another in the joined one and fill it
+-- these batches, followed by those of the ops, whose texts use up the joined text exactly
 abbrev pub batches_from : List FlatBatch → List DocOp → List ℕ → Result (List FlatBatch) FlatRefusal
 batches_from found [] [] = Ok found
 batches_from found [] (unit ∷ text) = Err range
@@ -60,7 +60,7 @@ batches_of ops text = batches_from [] ops text
 abbrev pub HasOps : DocBatch → Type 0
 HasOps b = 0 < length b.ops.items
 
--- these are the batches, or the texts do not fill theirs; or memory is wanting
+-- the result is these batches, or `Range` if the texts do not use up the joined text, or `Memory`
 abbrev pub GivesBatches : Result (Vec DocBatch Global) GroupError → Result (List FlatBatch) FlatRefusal → Type 0
 GivesBatches (Ok batches) rule = rule ≡ Ok (map flat_batch batches.items)
 GivesBatches (Err e) rule = (e ≡ Memory) ⊎ ((e ≡ Range) × (rule ≡ Err range))
@@ -69,11 +69,11 @@ abbrev pub plainly : Result FlatGroup FlatRefusal → Result FlatGroup GroupRefu
 plainly (Ok g) = Ok g
 plainly (Err why) = Err (plain why)
 
--- a batch of one document, by itself
+-- the batch carried out in its document
 abbrev pub group_batch : FlatBatch → FlatGroup → Result FlatGroup GroupRefusal
 group_batch b g = if nat_lt b.doc DOC_COUNT then plainly (group_edit g b.doc b.ops) else Err (plain unknown)
 
--- the batches are carried out, all or none, where there is one
+-- the batches carried out, all or none; at least one is needed
 abbrev pub joint_of : Result (List FlatBatch) FlatRefusal → FlatGroup → Result FlatGroup GroupRefusal
 joint_of (Err why) g = Err (plain why)
 joint_of (Ok []) g = Err (plain range)
@@ -90,8 +90,8 @@ JointlyChanged n batches =
 
 -- ---- texts in UTF-8
 
--- The ops, each with the number of units of its text in place of that of bytes. The texts fill the joined one, and none of them ends
--- inside a character.
+-- The ops, with the lengths of their texts converted from bytes to units. The texts use up the joined text, and none ends inside a
+-- character.
 abbrev pub ops_in_units : List DocOp → List ℕ → Result (List DocOp) FlatRefusal
 ops_in_units [] [] = Ok []
 ops_in_units [] (byte ∷ text) = Err range
@@ -99,12 +99,12 @@ ops_in_units (op ∷ ops) text =
     if nat_lt (length text) op.units || not (is_utf8 (take op.units text)) then Err range
     else before_all (record op { units = length (units_of (take op.units text)) }) (ops_in_units ops (drop op.units text))
 
--- the op in units, where its text is valid; or memory is wanting
+-- the result is the op in units if its text is valid UTF-8, else `Range`; or `Memory`
 abbrev pub CountsOp : DocOp → List ℕ → Result DocOp GroupError → Type 0
 CountsOp op text (Ok counted) = (is_utf8 text ≡ true) × (counted ≡ record op { units = length (units_of text) })
 CountsOp op text (Err e) = (e ≡ Memory) ⊎ ((e ≡ Range) × (is_utf8 text ≡ false))
 
--- these are the ops, or they are refused; or memory is wanting
+-- the result is what the rule gives, or `Memory`
 abbrev pub GivesOps : Result (Vec DocOp Global) GroupError → Result (List DocOp) FlatRefusal → Type 0
 GivesOps (Ok ops) rule = rule ≡ Ok ops.items
 GivesOps (Err e) rule = (e ≡ Memory) ⊎ ((e ≡ Range) × (rule ≡ Err range))
@@ -112,7 +112,7 @@ GivesOps (Err e) rule = (e ≡ Memory) ⊎ ((e ≡ Range) × (rule ≡ Err range
 abbrev pub batches_in_utf8 : List DocOp → List ℕ → List ℕ → Result (List FlatBatch) FlatRefusal
 batches_in_utf8 ops text units = or_refused (ops_in_units ops text) (λ counted. batches_of counted units)
 
--- the same of a joint edit
+-- `InUtf8` for a joint edit
 abbrev pub JointInUtf8 : ℕ → List DocOp → List ℕ → Option Contents → Option Contents → Type 0
 JointInUtf8 n ops text old new =
     InUtf8 n text (new ≡ old) (λ units. LeavesSession n old new ⊤ (JointlyChanged n (batches_in_utf8 ops text units)))

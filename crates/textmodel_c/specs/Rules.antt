@@ -1,4 +1,4 @@
--- What the calls of C ask of the flat document, and of the group that it is in.
+-- What the C calls return, by the flat document and its group.
 use Rattle.std.specs.Prelude.{ℕ, ◌+◌, ◌-◌, ◌/◌, ◌==◌, ◌&&◌, ◌||◌, not, Bool, true, false, nat_lt, nat_le, if◌then◌else◌, List, [], ◌∷◌, length, map, filter, reverse, take, drop, Option, Some, None, option_map, option_and_then, Result, Ok, Err}
 use Rattle.text_lengths.specs.declared.Position.{Position}
 use Rattle.text_lengths.specs.declared.Span.{Span}
@@ -39,28 +39,28 @@ at line column = record { line = line; column = column }
 abbrev pub span : ℕ → ℕ → Span
 span start end = record { start = start; end = end }
 
--- none is refused for its range
+-- None is refused with `Range`
 abbrev pub or_range : {A B : Type 0} → Option A → (A → Result B FlatRefusal) → Result B FlatRefusal
 or_range None rule = Err range
 or_range (Some x) rule = rule x
 
--- what is refused stays so
+-- an error stays the same, a value goes to the next rule
 abbrev pub or_refused : {A B : Type 0} → Result A FlatRefusal → (A → Result B FlatRefusal) → Result B FlatRefusal
 or_refused (Err why) rule = Err why
 or_refused (Ok x) rule = rule x
 
--- an answer that is told otherwise
+-- the value of the rule, converted
 abbrev pub told_as : {A B : Type 0} → (A → B) → Result A FlatRefusal → Result B FlatRefusal
 told_as tell (Ok x) = Ok (tell x)
 told_as tell (Err why) = Err why
 
--- ---- texts that stand one after another in one
+-- ---- texts joined into one
 
 abbrev pub before_all : {A : Type 0} → A → Result (List A) FlatRefusal → Result (List A) FlatRefusal
 before_all x (Ok xs) = Ok (x ∷ xs)
 before_all x (Err why) = Err why
 
--- what is made of each with its units of the joined text, where they fill it
+-- what `make` gives for each item and its part of the joined text, which they use up exactly
 abbrev pub pieces_of : {A B : Type 0} → (A → ℕ) → (A → List ℕ → B) → List A → List ℕ → Result (List B) FlatRefusal
 pieces_of units make [] [] = Ok []
 pieces_of units make [] (unit ∷ text) = Err range
@@ -86,7 +86,7 @@ number_of_kind Crlf = 2
 abbrev pub pair_units : ℕ → ℕ → PairUnits
 pair_units opening closing = record { opening = opening; closing = closing }
 
--- the two texts of a pair, joined
+-- the two texts of a pair, split
 abbrev pub pair_of : PairUnits → List ℕ → List ℕ × List ℕ
 pair_of pair text = (take pair.opening text, drop pair.opening text)
 
@@ -96,13 +96,13 @@ pairs_of pairs text = pieces_of (λ (pair : PairUnits). pair.opening + pair.clos
 abbrev pub table_or_range : Result Table FlatRefusal → Result Table FlatRefusal
 table_or_range told = or_refused told (λ pairs. if is_table pairs then Ok pairs else Err range)
 
--- the brackets of these pairs, whose texts fill the joined one; the usual ones where there is no pair
+-- the bracket table of these pairs, whose texts use up the joined text; the standard one without pairs
 abbrev pub table_of : List PairUnits → List ℕ → Result Table FlatRefusal
 table_of [] [] = Ok standard_table
 table_of [] (unit ∷ text) = Err range
 table_of (pair ∷ pairs) text = table_or_range (pairs_of (pair ∷ pairs) text)
 
--- a text of no unit is no mark, and two of none are no pair of marks
+-- an empty text is no mark, and two empty texts are no pair of marks
 abbrev pub line_mark : List ℕ → Option (List ℕ)
 line_mark [] = None
 line_mark (unit ∷ text) = Some (unit ∷ text)
@@ -128,7 +128,7 @@ marks_of line block text =
 abbrev pub both : {A B : Type 0} → Result A FlatRefusal → Result B FlatRefusal → Result (A × B) FlatRefusal
 both one other = or_refused one (λ x. told_as (λ y. (x, y)) other)
 
--- the brackets, and the marks that hide some of them, where they are valid
+-- the brackets, and the marks that hide some of them, if all are valid
 abbrev pub Scanning : Type 0
 Scanning = Result (Table × Marks) FlatRefusal
 
@@ -138,7 +138,7 @@ scanning_of pairs brackets line block text = both (table_of pairs brackets) (mar
 abbrev pub scanning_in : List PairUnits → List ℕ → ℕ → ℕ → ℕ → List ℕ → Scanning
 scanning_in pairs brackets line opening closing text = scanning_of pairs brackets line (pair_units opening closing) text
 
--- a new document in place of this one
+-- this document replaced by a new one
 abbrev pub group_open_as : ℕ → ℕ → Scanning → List ℕ → FlatGroup → Result FlatGroup FlatRefusal
 group_open_as doc number scanning text g =
     or_range (kind_of number) (λ kind. or_refused scanning (λ by. group_open g doc text (scanner by.0 by.1) kind))
@@ -162,13 +162,12 @@ is_utf16 Utf32 = false
 abbrev pub place : ℕ → ℕ → Place
 place line column = record { line = line; column = column }
 
--- How many bytes, units or code points stand before a place of a line. In a mixed document the LF of a CR LF is a place too, one
--- behind the content.
+-- An offset in a line, converted into the encoding. In a mixed document the offset between CR and LF is valid: one beyond the content.
 abbrev pub column_before : Encoding → List ℕ → ℕ → Option ℕ
 column_before encoding content before =
     if before == length content + 1 then Some (length_in encoding content + 1) else column_in encoding content before
 
--- the column of a position in units, where that is counted otherwise
+-- a column in units, converted into the encoding
 abbrev pub column_at : Encoding → ℕ → List ℕ → Option ℕ
 column_at encoding column content =
     if column == 0 then None else option_map (λ n. n + 1) (column_before encoding content (column - 1))
@@ -179,7 +178,7 @@ column_of f encoding p = of_line (column_at encoding p.column) (flat_line f p.li
 abbrev pub column_as : FlatState → Encoding → Position → Result ℕ FlatRefusal
 column_as f encoding p = if is_utf16 encoding then Ok p.column else column_of f encoding p
 
--- the place of a position in units
+-- a position in units, converted into the encoding
 abbrev pub place_in : FlatState → Encoding → Position → Result Place FlatRefusal
 place_in f encoding p = told_as (place p.line) (column_as f encoding p)
 
@@ -190,17 +189,17 @@ place_if f encoding (Some p) = told_as Some (place_in f encoding p)
 abbrev pub flat_place : FlatState → ℕ → ℕ → Result (Option Place) FlatRefusal
 flat_place f number offset = or_range (encoding_of number) (λ encoding. place_if f encoding (flat_position f offset))
 
--- the place of a line before which so many stand
+-- an offset in a line, converted from the encoding into units
 abbrev pub units_before : Encoding → List ℕ → ℕ → Option ℕ
 units_before encoding content before =
     if before == length_in encoding content + 1 then Some (length content + 1) else offset_of encoding content before
 
--- the column in units of one that is counted otherwise
+-- a column of the encoding, converted into units
 abbrev pub units_column : Encoding → ℕ → List ℕ → Option ℕ
 units_column encoding column content =
     if column == 0 then None else option_map (λ n. n + 1) (units_before encoding content (column - 1))
 
--- a position that is counted otherwise, in units: there is none where the place is inside a character or beyond its line
+-- a position of the encoding, converted into units; None if it is inside a character or beyond its line
 abbrev pub position_if : ℕ → Result ℕ FlatRefusal → Option Position
 position_if line (Ok column) = Some (at line column)
 position_if line (Err why) = None
@@ -228,7 +227,7 @@ both_ends None end = None
 abbrev pub span_between : FlatState → Encoding → Position → Position → Option Span
 span_between f encoding from to = both_ends (offset_in f encoding from) (offset_in f encoding to)
 
--- from one position up to another
+-- an edit from one position up to another
 abbrev pub group_edit_at : ℕ → ℕ → Position → Position → List ℕ → FlatGroup → Result FlatGroup FlatRefusal
 group_edit_at doc number from to text g =
     or_range (encoding_of number) (λ encoding. or_range (span_between (doc_in g doc) encoding from to)
@@ -236,11 +235,11 @@ group_edit_at doc number from to text g =
 
 -- ---- what is read
 
--- one fewer where the end is no place
+-- one less if the end is not a valid offset
 abbrev pub cut_back : FlatState → ℕ → ℕ → ℕ
 cut_back f offset end = if nat_lt offset end && not (is_place_in f.kind f.units end) then end - 1 else end
 
--- where as many units end from an offset on as there is room for
+-- the end of the units from the offset on that fit into this room
 abbrev pub fitting_end : FlatState → ℕ → ℕ → ℕ
 fitting_end f offset room =
     if nat_le (length f.units) offset || nat_le (length f.units - offset) room then length f.units
@@ -249,15 +248,15 @@ fitting_end f offset room =
 abbrev pub fitting_span : FlatState → ℕ → ℕ → Span
 fitting_span f offset room = span offset (fitting_end f offset room)
 
--- there is to be room for two, since these may belong together
+-- the room must be 2 units or more, since a pair is never split
 abbrev pub flat_read : FlatState → ℕ → ℕ → Result (List ℕ) FlatRefusal
 flat_read f offset room = if nat_lt room 2 then Err range else flat_value f (fitting_span f offset room)
 
--- what a rule gives, in UTF-8, where a lone surrogate becomes U+FFFD
+-- the units of a rule in UTF-8, where a lone surrogate becomes U+FFFD
 abbrev pub in_utf8 : Result (List ℕ) FlatRefusal → Result (List ℕ) FlatRefusal
 in_utf8 rule = told_as utf8_of rule
 
--- as many units as certainly have room: each takes three bytes at most
+-- how many units are sure to fit into these bytes: each takes at most 3
 abbrev pub units_for : ℕ → ℕ
 units_for bytes = bytes / 3
 
@@ -288,7 +287,7 @@ flat_decoration_list f span owner = told_as (map decoration_of) (flat_decos f sp
 abbrev pub found_of : Span → Found
 found_of span = record { start = span.start; end = span.end }
 
--- it begins at a place or behind it; or with `back` it ends at it or before it
+-- the span starts at or after `from`; with `back`, it ends at or before it
 abbrev pub is_within : ℕ → Bool → Span → Bool
 is_within from false span = nat_le from span.start
 is_within from true span = nat_le span.end from
@@ -297,11 +296,11 @@ abbrev pub in_turn : {A : Type 0} → Bool → List A → List A
 in_turn false xs = xs
 in_turn true xs = reverse xs
 
--- those of the spans, from left to right, or with `back` the last one first
+-- the spans of `is_within`, from left to right; with `back`, from right to left
 abbrev pub found_list : ℕ → Bool → List Span → List Found
 found_list from back spans = in_turn back (map found_of (filter (is_within from back) spans))
 
--- at most so many of the spans at which a text stands, which is not empty
+-- at most `most` spans at which the text occurs; an empty text is refused
 abbrev pub flat_find_list : FlatState → List ℕ → ℕ → Bool → ℕ → Result (List Found) FlatRefusal
 flat_find_list f [] from back most = Err range
 flat_find_list f (u ∷ units) from back most = Ok (take most (found_list from back (flat_find f (u ∷ units))))
@@ -318,7 +317,7 @@ number_of_state PairedClosing = 1
 number_of_state Unclosed = 2
 number_of_state Unexpected = 3
 
--- the column at which units of a line start, and how long they are
+-- the column and the length of a span in a line, in the encoding
 abbrev pub extent_of : FlatState → Encoding → Position → ℕ → Result (ℕ × ℕ) FlatRefusal
 extent_of f encoding p units =
     if is_utf16 encoding then Ok (p.column, units)
@@ -337,7 +336,7 @@ bracket_of entry extent = record {
 abbrev pub bracket_in : FlatState → Encoding → Entry → Result Bracket FlatRefusal
 bracket_in f encoding entry = told_as (bracket_of entry) (extent_of f encoding (position_at entry.place) entry.len)
 
--- what all of them give, or why the first is refused that is
+-- the values of all, or the first error
 abbrev pub all_of : {A : Type 0} → List (Result A FlatRefusal) → Result (List A) FlatRefusal
 all_of [] = Ok []
 all_of (Err why ∷ told) = Err why
@@ -366,7 +365,7 @@ flat_level_at f number p =
 
 -- ---- stops of a cursor
 
--- columns of a line in units, counted otherwise
+-- columns of a line in units, converted into the encoding
 abbrev pub columns_in : FlatState → Encoding → ℕ → List ℕ → Result (List ℕ) FlatRefusal
 columns_in f encoding line columns = all_of (map (λ column. column_as f encoding (at line column)) columns)
 

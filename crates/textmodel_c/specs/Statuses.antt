@@ -1,4 +1,4 @@
--- How a call ended, and its number.
+-- The statuses and their numbers.
 use Rattle.std.specs.Prelude.{ℕ, Bool, true, false, Option, Some, None, Result, Ok as Accepted, Err, ⊤}
 use Rattle.document_rules.specs.declared.ModelError.{ModelError}
 use Rattle.document_rules.specs.declared.ModelError.TheVariants as error
@@ -38,7 +38,7 @@ status_of_group_error group.Limit = Limit
 status_of_group_error (group.Joint n) = Joint
 status_of_group_error group.Memory = Memory
 
--- a command of a script that is refused
+-- the status of a refused script command
 abbrev pub status_of_refusal : Refusal → Status
 status_of_refusal reason.Syntax = Range
 status_of_refusal reason.Unknown = Unknown
@@ -49,19 +49,19 @@ status_of_refusal reason.Memory = Memory
 status_of_refusal (reason.Gap have need) = Gap
 status_of_refusal (reason.Joint n) = Joint
 
--- a call that answers whether there was anything to do
+-- the status of a call that may have nothing to do
 abbrev pub status_of_step : Result Bool ModelError → Status
 status_of_step (Accepted true) = Ok
 status_of_step (Accepted false) = Nothing
 status_of_step (Err e) = status_of_error e
 
--- the same of one that several documents may take part in
+-- `status_of_step` for undo and redo
 abbrev pub status_of_going : Result Bool GroupError → Status
 status_of_going (Accepted true) = Ok
 status_of_going (Accepted false) = Nothing
 status_of_going (Err e) = status_of_group_error e
 
--- a call on several documents that answers nothing
+-- the status of a call on several documents without a result
 abbrev pub status_of_joint : Result ⊤ GroupError → Status
 status_of_joint (Accepted x) = Ok
 status_of_joint (Err e) = status_of_group_error e
@@ -70,12 +70,12 @@ abbrev pub status_of_given : {A : Type 0} → Result A ModelError → Status
 status_of_given (Accepted x) = Ok
 status_of_given (Err e) = status_of_error e
 
--- what is answered, or else what was there
+-- the result, or the old value after an error
 abbrev pub given_or : {A : Type 0} → A → Result A ModelError → A
 given_or old (Accepted x) = x
 given_or old (Err e) = old
 
--- a call that answers something, where there is anything
+-- the status of a call with an optional result
 abbrev pub status_of_found : {A : Type 0} → Result (Option A) ModelError → Status
 status_of_found (Accepted (Some x)) = Ok
 status_of_found (Accepted None) = Nothing

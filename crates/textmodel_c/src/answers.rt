@@ -12,7 +12,7 @@ use script_lines::refusal;
 use sessions::{Outcome, Refused};
 use std::alloc::Global;
 
-/// The version of this library: ten thousand times the major number, a hundred times the minor one, and the patch.
+/// Returns the version of this library: 10000 times the major number, 100 times the minor number, plus the patch.
 #[unsafe(no_mangle)]
 pub extern "C" fn tm_version() -> u32
     ensures { result ≡ 10000 }
@@ -20,8 +20,7 @@ pub extern "C" fn tm_version() -> u32
     10000
 }
 
-// Answers the line, and keeps what came of it; how many bytes are written for it. It may have opened a document, so nothing is told
-// of a change any more.
+// Answers the line, keeps the reply and returns its length in bytes. The line may have opened a document, so `tm_next_change` starts again.
 fn answer(contents: &mut Contents, line: &[u8]) -> u64
     ensures turn { Turns contents.old.session line.now
         (bytes_of_outcome contents.new.reply) contents.new.session }
@@ -35,7 +34,7 @@ fn answer(contents: &mut Contents, line: &[u8]) -> u64
     len
 }
 
-// How many bytes are written for a line.
+// Returns the length of a reply in bytes.
 fn reply_len(outcome: &Outcome) -> u64
     ensures { result ≡ length (bytes_of_outcome outcome.now) }
 {
@@ -45,8 +44,7 @@ fn reply_len(outcome: &Outcome) -> u64
     }
 }
 
-/// Answers a script line, which comes without its LF, on all documents of the handle, keeps the reply, and tells how many bytes it
-/// has.
+/// Answers a script line for the whole session. The line comes without its LF. Keeps the reply and sets `len` to its length in bytes.
 #[unsafe(no_mangle)]
 pub extern "C" fn tm_raw_answer(
     alloc: Global,
@@ -63,7 +61,7 @@ pub extern "C" fn tm_raw_answer(
     Status::Ok.number()
 }
 
-// Puts as many bytes from a place on as there is room for, and tells how many these are.
+// Copies as many bytes from the offset `from` on as fit into `out`. Sets `count` to their number.
 fn copy_from(bytes: &[u8], from: u64, out: &mut [u8], count: &mut u64) -> Status
     ensures { CopiedFrom result bytes.now from out.old out.new count.old count.new }
 {
@@ -89,8 +87,8 @@ fn copy_reply(outcome: &Outcome, from: u64, out: &mut [u8], count: &mut u64) -> 
     }
 }
 
-/// As many bytes of the last reply as `out` has room for, from the byte at `from` on, and how many they are. `Range` where
-/// `from` is above the length of the reply.
+/// Copies as much of the last reply from byte `from` on as fits into `out`. Sets `count` to its length in bytes. `Range` if `from` is
+/// beyond the end of the reply.
 #[unsafe(no_mangle)]
 pub extern "C" fn tm_raw_reply(
     alloc: Global,

@@ -23,9 +23,8 @@ use model_group::Group;
 use std::alloc::Global;
 use steps::Steps;
 
-/// A bracket: where it starts, how long it is, as its column counts, its kind by the place in the table, how many are open around it,
-/// and what it is: 0 an opening one that is closed later, 1 a closing one that closes an earlier one, 2 an opening one that none
-/// closes, 3 a closing one that closes none.
+/// A bracket: its line, column and length, in the unit of the encoding; its kind, which is the index of its pair in the table; its nesting
+/// level; and its state: 0 opening, closed later; 1 closing, opened before; 2 opening, never closed; 3 closing, never opened.
 #[repr(C)]
 #[derive(Clone, Copy)]
 pub struct Bracket {
@@ -158,9 +157,9 @@ fn brackets_out(
     hand_out_of(answer, &found, out, count)
 }
 
-/// The brackets of the lines `from` to `to`, both included, in the order of the text, and how many they are. Columns and lengths count
-/// by `encoding`, as in `tm_position`. `Range` where one of the lines is not there, `from` is above `to`, the encoding is invalid, or a
-/// bracket begins or ends inside a character, as one that is half of a pair of surrogates may; `Short` where `out` has no room for all.
+/// Lists the brackets of the lines `from` to `to`, both included, in the order of the text. Sets `count` to their number. `encoding` is the
+/// unit of columns and lengths, as in `tm_position`. `Range` if a line is missing, `from` is above `to`, the encoding is invalid or a
+/// bracket begins or ends inside a surrogate pair. `Short` if `out` is too short.
 #[unsafe(no_mangle)]
 pub extern "C" fn tm_raw_brackets(
     alloc: Global,
@@ -204,7 +203,7 @@ fn match_at(
     group.match_at(doc, at, &mut Steps::new())
 }
 
-// The position in units of one that is counted otherwise.
+// Converts a position into UTF-16 units. `Range` if it is invalid.
 fn position_as(
     alloc: Global,
     model: &Model,
@@ -217,7 +216,7 @@ fn position_as(
     position_in(alloc, model, encoding, at)?.ok_or(ModelError::Range)
 }
 
-// The bracket of so many units at a position, as C has it.
+// Converts a found bracket from UTF-16 units into the encoding.
 fn partner_in(
     alloc: Global,
     model: &Model,
@@ -257,9 +256,9 @@ fn partner_at(
     partner_in(alloc, document(group, doc), encoding, found)
 }
 
-/// The other bracket of a pair, where one of the two starts at the position; `Nothing` where none does. Columns and lengths count by
-/// `encoding`, as in `tm_position`. `Range` where the position or the encoding is invalid. It takes no memory where the text was parsed
-/// since it changed last and the encoding is 16.
+/// Sets `partner` to the bracket that matches the one at this position. `Nothing` if no bracket of a pair starts there. `encoding` is the
+/// unit of columns and lengths, as in `tm_position`. `Range` if the position or the encoding is invalid. Never `Memory` if the encoding is
+/// 16 and the text was parsed since its last change.
 #[unsafe(no_mangle)]
 pub extern "C" fn tm_match(
     alloc: Global,
@@ -309,9 +308,9 @@ fn level_as(
     level_at(group, doc, at)
 }
 
-/// How many brackets are open after those that start before the position, whose column counts by `encoding`, as in `tm_position`.
-/// `Range` where the position or the encoding is invalid. It takes no memory where the text was parsed since it changed last and the
-/// encoding is 16.
+/// Sets `level` to how many brackets are open after those that start before the position. `encoding` is the unit of its column, as in
+/// `tm_position`. `Range` if the position or the encoding is invalid. Never `Memory` if the encoding is 16 and the text was parsed since
+/// its last change.
 #[unsafe(no_mangle)]
 pub extern "C" fn tm_level(
     alloc: Global,

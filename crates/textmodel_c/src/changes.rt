@@ -15,7 +15,7 @@ use crate::utf8::utf8_out;
 use model_core::Model;
 use std::alloc::{AllocError, Global};
 
-// Tells the next edit of the document of this number. An error leaves what was told last.
+// Moves on to the next edit of the document's last change. On an error `telling` is unchanged.
 fn tell_next(
     alloc: Global,
     telling: &mut Option<Telling>,
@@ -56,10 +56,9 @@ fn hand_out_next(alloc: Global, contents: &mut Contents, doc: u64, change: &mut 
     }
 }
 
-/// Tells the next edit of the document's last change, be it an edit, other line endings, an undo or a redo. One after another, these
-/// edits lead from the text before it to that of now. `Nothing` behind the last one, and then the next call begins again. The edits
-/// are collected at the first call, which answers `Memory` where there is none for them. It begins again, too, where the document has
-/// changed since the last call, or that was on another document, or a document was opened or a line answered since.
+/// Sets `change` to the next edit of the document's last change. The change is an edit, an undo, a redo or new line endings. Applied in
+/// order, the edits turn the text before it into the present one. `Nothing` after the last edit; the next call then starts again. It also
+/// starts again after another change, a call for another document, `tm_open` or a script line. `Memory` only at a call that starts.
 #[unsafe(no_mangle)]
 pub extern "C" fn tm_next_change(
     alloc: Global,
@@ -85,8 +84,8 @@ fn text_out(telling: &Option<Telling>, out: &mut [u16], count: &mut u64) -> Stat
     }
 }
 
-/// The text of the edit that `tm_next_change` told last, and how many units it has. `Nothing` where it told none, or a document was
-/// opened or a line answered since; `Short` where `out` has no room for all.
+/// Copies the text of the edit that `tm_next_change` returned last. Sets `count` to its length in units. `Nothing` if there is no such
+/// edit, or a document was opened or a line answered since; `Short` if `out` is too short.
 #[unsafe(no_mangle)]
 pub extern "C" fn tm_raw_change_text(
     alloc: Global,
@@ -117,7 +116,7 @@ fn text_utf8_out(
     }
 }
 
-/// `tm_raw_change_text` in UTF-8, and how many bytes it has. A lone surrogate becomes U+FFFD.
+/// Like `tm_raw_change_text`, in UTF-8; `count` is in bytes. A lone surrogate becomes U+FFFD.
 #[unsafe(no_mangle)]
 pub extern "C" fn tm_raw_change_text_utf8(
     alloc: Global,

@@ -1,4 +1,4 @@
-//! Columns of places that are asked for from left to right, as those of brackets are: each line is gone over once.
+//! Converts columns into another encoding. Columns are asked for from left to right, so each line is scanned once.
 
 ghost use Rattle.std.specs.Prelude.{◌≡◌, ◌+◌, ◌<◌, ◌^◌, true, false, Ok, Err, IfOk, IfSome};
 ghost use Rattle.document_rules.specs.Document.{FlatState, flat_line};
@@ -11,8 +11,7 @@ use column_encodings::column_in;
 use model_core::{Encoding, Model, ModelError, Position};
 use std::alloc::Global;
 
-/// The line that was read last, and how many bytes, units or code points stand before a place of it. The line is 0 where none was
-/// read.
+/// The line that was read last, or 0 for none, and an offset in it: `before` in units, `column` in the encoding.
 #[derive(Drop)]
 pub struct Columns {
     pub alloc: Global,
@@ -24,7 +23,7 @@ pub struct Columns {
 }
 
 impl Columns {
-    /// Before any line was read.
+    /// Starts without a line.
     pub(crate) fn new(alloc: Global, encoding: Encoding) -> Columns
         ensures follows { (f : FlatState) → Follow result f }
         ensures encoding { result.encoding ≡ encoding }
@@ -39,7 +38,7 @@ impl Columns {
         }
     }
 
-    /// The column of a position in units.
+    /// Converts a position's column from UTF-16 units into the encoding.
     pub(crate) fn column(&mut self, model: &Model, at: Position) -> Result<u64, ModelError>
         requires { Follow self.old model.now.document }
         ensures column { Gives result (column_as model.now.document self.old.encoding at) }
@@ -55,7 +54,7 @@ impl Columns {
         self.column_at(at.column).ok_or(ModelError::Range)
     }
 
-    /// The column at which so many units start, and how long they are.
+    /// Converts a column and a length from UTF-16 units into the encoding.
     pub(crate) fn extent(
         &mut self,
         model: &Model,
@@ -78,7 +77,7 @@ impl Columns {
         Ok((start, end.saturating_sub(start)))
     }
 
-    // The column of a column in units of the line.
+    // Converts a column from UTF-16 units into the encoding.
     fn column_at(&mut self, column: u64) -> Option<u64>
         requires { IsAtPlace self.old }
         ensures column { result ≡ column_at self.old.encoding column self.old.content.items }
@@ -90,7 +89,7 @@ impl Columns {
         Some(stand + 1)
     }
 
-    // Reads a line, if it is not the one that was read last.
+    // Reads a line, unless it is the one read last.
     fn go_to(&mut self, model: &Model, line: u64) -> Result<(), ModelError>
         requires { Follow self.old model.now.document }
         ensures { HasRead result model.now.document line self.old self.new }
@@ -101,7 +100,7 @@ impl Columns {
         self.read(model, line)
     }
 
-    // Reads a line. An error leaves what was read last.
+    // Reads a line. On an error everything is unchanged.
     fn read(&mut self, model: &Model, line: u64) -> Result<(), ModelError>
         ensures { HasRead result model.now.document line self.old self.new }
     {
@@ -114,7 +113,7 @@ impl Columns {
         Ok(())
     }
 
-    // How many stand before a place of the line.
+    // Converts an offset in the line from units into the encoding.
     fn column_before(&mut self, before: u64) -> Option<u64>
         requires { IsAtPlace self.old }
         ensures column { result ≡ column_before self.old.encoding self.old.content.items before }

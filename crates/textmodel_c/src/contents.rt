@@ -11,7 +11,7 @@ use model_group::Group;
 use sessions::{Outcome, Reply, Session};
 use std::alloc::{AllocError, Global};
 
-/// A session, what came of the last script line, and what is told of the last change of a document.
+/// A session, the reply to the last script line, and the progress of `tm_next_change`.
 #[derive(Drop)]
 pub struct Contents {
     pub session: Session,
@@ -20,7 +20,7 @@ pub struct Contents {
 }
 
 impl Contents {
-    /// A session of empty documents.
+    /// Makes a session of empty documents.
     pub(crate) fn new(alloc: Global) -> Result<Box<Contents>, AllocError>
         ensures { IfOk result (λ new. IsNew new.value) }
     {
@@ -32,7 +32,7 @@ impl Contents {
         Box::new(alloc, contents).map_err(|_| AllocError)
     }
 
-    /// The document of this number.
+    /// Returns the document of this number.
     pub(crate) fn document(&self, doc: u64) -> &Model
         requires { doc < DOC_COUNT }
         ensures { result.now.document ≡ document_in self.now.session.group doc }
@@ -41,7 +41,7 @@ impl Contents {
     }
 }
 
-/// The document of this number.
+/// Returns the document of this number.
 pub(crate) fn document(group: &Group, doc: u64) -> &Model
     requires { doc < DOC_COUNT }
     ensures { result.now.document ≡ document_in group.now doc }

@@ -37,8 +37,8 @@ fn edit_span(
     group.edit(doc, ops)
 }
 
-/// Puts the text in the place of the units from `start` up to `end`, as the next version. `Range` where this is no span of the
-/// text, `Limit` where the new text or the version would pass its limit.
+/// Replaces the units from `start` up to `end` by the text. The version goes up by 1. `Range` if this is not a valid span of the text,
+/// `Limit` if the new text or the version would pass its limit.
 #[unsafe(no_mangle)]
 pub extern "C" fn tm_raw_edit(
     alloc: Global,
@@ -58,7 +58,7 @@ pub extern "C" fn tm_raw_edit(
     Status::of_done(answer).number()
 }
 
-// The offset of a position. What was looked up is remembered for the edit that comes next.
+// Converts a position into an offset. Remembers the pieces for the next edit.
 fn offset_in(
     alloc: Global,
     group: &mut Group,
@@ -114,8 +114,8 @@ fn edit_between(
     edit_span(alloc, group, doc, span, text)
 }
 
-/// `tm_raw_edit` of the units from one position up to another. A column counts from 1: by `encoding`, which is 8, 16 or 32, bytes of
-/// UTF-8, units of UTF-16 or code points. `Range` also where it is another number, or a position is invalid.
+/// Like `tm_raw_edit`, from one position up to another. `encoding` is the unit of the columns: 8 for bytes of UTF-8, 16 for UTF-16 units,
+/// 32 for code points. Columns count from 1. `Range` also if the encoding or a position is invalid.
 #[unsafe(no_mangle)]
 pub extern "C" fn tm_raw_edit_at(
     alloc: Global,
@@ -143,7 +143,7 @@ pub extern "C" fn tm_raw_edit_at(
     Status::of_done(answer).number()
 }
 
-/// `tm_raw_edit` of a text in UTF-8. `Encoding` where it is not valid: `bad` is then the offset of the first byte at fault.
+/// Like `tm_raw_edit`, with a text in UTF-8. `Encoding` if it is invalid; `bad` is then the offset of the first invalid byte.
 #[unsafe(no_mangle)]
 pub extern "C" fn tm_raw_edit_utf8(
     alloc: Global,
@@ -162,7 +162,7 @@ pub extern "C" fn tm_raw_edit_utf8(
     tm_raw_edit(alloc, handle, doc, start, end, &units)
 }
 
-/// `tm_raw_edit_at` of a text in UTF-8. `Encoding` as in `tm_raw_edit_utf8`.
+/// Like `tm_raw_edit_at`, with a text in UTF-8. `Encoding` as in `tm_raw_edit_utf8`.
 #[unsafe(no_mangle)]
 pub extern "C" fn tm_raw_edit_at_utf8(
     alloc: Global,
@@ -186,9 +186,9 @@ pub extern "C" fn tm_raw_edit_at_utf8(
     )
 }
 
-/// Goes back to the text before the last step, as the next version; `Nothing` where there is none. A step that was made in
-/// several documents at once is undone in all of them. `Limit` where a version would pass its limit; else `Joint` where that
-/// step is not the last one of each of them: `other` is then one of which it is not.
+/// Undoes the last step. The version goes up by 1. `Nothing` if there is no step. A step of a joint edit is undone in all its documents.
+/// `Limit` if a version would pass its limit; else `Joint` if the step is not the last one in each of these documents: `other` is then one
+/// where it is not.
 #[unsafe(no_mangle)]
 pub extern "C" fn tm_raw_undo(alloc: Global, handle: &mut Handle, doc: u64, other: &mut u64) -> u32
     ensures document { WentHeld result doc handle.old.held handle.new.held other.old other.new
@@ -200,9 +200,9 @@ pub extern "C" fn tm_raw_undo(alloc: Global, handle: &mut Handle, doc: u64, othe
     Status::of_going(answer, other).number()
 }
 
-/// Goes on to the text after the step that was undone last, as the next version; `Nothing` where there is none. A step of several
-/// documents is made again in all of them. `Limit` where a version would pass its limit; else `Joint` where that step is not
-/// the next one of each of them: `other` is then one of which it is not.
+/// Redoes the step that was undone last. The version goes up by 1. `Nothing` if there is no step. A step of a joint edit is redone in all
+/// its documents. `Limit` if a version would pass its limit; else `Joint` if the step is not the next one in each of these documents:
+/// `other` is then one where it is not.
 #[unsafe(no_mangle)]
 pub extern "C" fn tm_raw_redo(alloc: Global, handle: &mut Handle, doc: u64, other: &mut u64) -> u32
     ensures document { WentHeld result doc handle.old.held handle.new.held other.old other.new
@@ -221,7 +221,7 @@ fn stop(group: &mut Group, doc: u64)
     group.stop(doc);
 }
 
-/// The next edit begins a step of undo.
+/// Makes the next edit begin a new step of undo.
 #[unsafe(no_mangle)]
 pub extern "C" fn tm_stop(alloc: Global, handle: &mut Handle, doc: u64) -> u32
     ensures document { Leaves result doc handle.old.held handle.new.held
@@ -242,9 +242,8 @@ fn set_kind(group: &mut Group, doc: u64, kind: u32) -> Result<bool, ModelError>
     group.set_eol(doc, kind)
 }
 
-/// Changes the line endings of the text to those of the kind, as the next version and as a step of undo of its own;
-/// `Nothing` where they are of it. `Range` where there is no kind of this number, else `Limit` where the new text or the
-/// version would pass its limit.
+/// Changes all line endings to this kind. The version goes up by 1. The change is its own step of undo. `Nothing` if the document has this
+/// kind already. `Range` if the kind is invalid, else `Limit` if the new text or the version would pass its limit.
 #[unsafe(no_mangle)]
 pub extern "C" fn tm_set_eol(alloc: Global, handle: &mut Handle, doc: u64, kind: u32) -> u32
     ensures document { Leaves result doc handle.old.held handle.new.held

@@ -1,4 +1,4 @@
-//! Which edit of a joint edit, or which decoration, a call was refused for.
+//! Finds the edit of a joint edit, or the decoration, for which a call was refused.
 
 ghost use Rattle.std.specs.Prelude.{◌≡◌, ◌||◌, List, [], Bool, not, false, nat_lt, IfOk};
 ghost use Rattle.std.specs.List.{list_any};
@@ -23,18 +23,18 @@ use model_core::{Model, ModelError, Op, Span, Units};
 use model_group::{DOC_COUNT, names_badly};
 use std::alloc::{AllocError, Global};
 
-/// A fault that a list may have, and that an empty one has not.
+/// A fault of a list. The empty list never has it.
 trait Fault<T> {
     ghost so: { Self → List T → Bool };
 
-    /// Whether the list has the fault.
+    /// Returns whether the list has the fault.
     fn is_in(&self, items: &[T]) -> Result<bool, AllocError>
         ensures { IfOk result (λ answer. answer ≡ so self.now items.now) };
 
     ghost not_in_none: { (fault : Self) → so fault [] ≡ false };
 }
 
-// The place of the first item with which those up to it have the fault; None where not even all of them have it.
+// Returns an index n such that the first n + 1 items have the fault and the first n do not; None if all items have not.
 fn first_with<T, F: Fault<T>>(fault: &F, items: &[T]) -> Result<Option<u64>, AllocError>
     ensures { IfOk result (FindsFirst (F.so fault.now) items.now) }
 {
@@ -54,14 +54,14 @@ fn first_with<T, F: Fault<T>>(fault: &F, items: &[T]) -> Result<Option<u64>, All
     Ok(Some(low as u64))
 }
 
-// Whether the start of the span is above its end, or one of the two is no place of the text.
+// Returns whether the start is above the end, or one of the two is not a valid offset of the text.
 fn is_bad_span(model: &Model, span: Span) -> bool
     ensures { result ≡ is_bad_span model.now.document.kind model.now.document.units span }
 {
     span.end < span.start || !(model.is_place(span.start) && model.is_place(span.end))
 }
 
-// The documents of the ops in turn, where adjacent ops of one document count once.
+// Returns the documents of the ops in order. Adjacent ops of one document count once.
 fn docs_in_turn(alloc: Global, ops: &[DocOp]) -> Result<Vec<u64>, AllocError>
     ensures { IfOk result (λ docs. docs.items ≡ docs_in_turn ops.now) }
 {
@@ -70,7 +70,7 @@ fn docs_in_turn(alloc: Global, ops: &[DocOp]) -> Result<Vec<u64>, AllocError>
     Ok(docs)
 }
 
-/// A document of ops is none, or comes again behind another one.
+/// A document number is out of range, or repeated after another one.
 #[derive(Drop)]
 struct BadNames {
     alloc: Global,
@@ -89,7 +89,7 @@ impl Fault<DocOp> for BadNames {
     }
 }
 
-// Where there is no document of its number, its span is one of an empty text.
+// Returns whether the op's span is invalid. A missing document counts as empty.
 fn has_bad_span(contents: &Contents, op: DocOp) -> bool
     ensures { result ≡ has_bad_span (documents contents.now.session.group) op }
 {
@@ -103,7 +103,7 @@ fn has_bad_span(contents: &Contents, op: DocOp) -> bool
     is_bad_span(contents.document(op.doc), span)
 }
 
-// Whether the text of the op passes the end of what is left of the joined one, or its span is invalid.
+// Returns whether the op has more than `left` units of text or an invalid span.
 fn is_out_of_range(contents: &Contents, op: DocOp, left: u64) -> bool
     ensures { result ≡ (nat_lt left op.units
         || has_bad_span (documents contents.now.session.group) op) }
@@ -138,7 +138,7 @@ fn without_text(alloc: Global, op: DocOp) -> Op
     }
 }
 
-// The ops of one document, without their texts.
+// Returns the ops of one document, without their texts.
 fn spans_on(alloc: Global, doc: u64, ops: &[DocOp]) -> Result<Vec<Op>, AllocError>
     ensures { IfOk result (λ spans. spans.items ≡ spans_on doc ops.now) }
 {
@@ -151,7 +151,7 @@ fn spans_on(alloc: Global, doc: u64, ops: &[DocOp]) -> Result<Vec<Op>, AllocErro
     Ok(spans)
 }
 
-// Whether one of the ops, which are in order, starts below the end of the one before it.
+// Returns whether two of the ops overlap. The ops are sorted.
 fn overlap(ops: &[Op]) -> bool
     ensures { result ≡ overlap ops.now }
 {
@@ -165,7 +165,7 @@ fn overlap(ops: &[Op]) -> bool
     false
 }
 
-// Whether two of the ops on the document overlap.
+// Returns whether two ops of this document overlap.
 fn overlap_on(alloc: Global, doc: u64, ops: &[DocOp]) -> Result<bool, AllocError>
     ensures { IfOk result (λ answer. answer ≡ overlap_on doc ops.now) }
 {
@@ -173,7 +173,7 @@ fn overlap_on(alloc: Global, doc: u64, ops: &[DocOp]) -> Result<bool, AllocError
     Ok(overlap(sorted.ops()))
 }
 
-// Whether two of the ops on one of the documents overlap.
+// Returns whether two ops of one of these documents overlap.
 fn overlap_on_any(alloc: Global, docs: &[u64], ops: &[DocOp]) -> Result<bool, AllocError>
     ensures { IfOk result (λ answer. answer ≡ list_any (λ doc. overlap_on doc ops.now) docs.now) }
 {
@@ -185,7 +185,7 @@ fn overlap_on_any(alloc: Global, docs: &[u64], ops: &[DocOp]) -> Result<bool, Al
     Ok(false)
 }
 
-/// Two ops on one document overlap.
+/// Two ops of one document overlap.
 #[derive(Drop)]
 struct Overlaps {
     alloc: Global,
@@ -226,17 +226,17 @@ fn edit_at_fault(
     Ok(None)
 }
 
-// The status of a search, of which the place is handed out where one was found.
+// Stores the index that was found, if any, and returns the status.
 fn told(place: Result<Option<u64>, AllocError>, index: &mut u64) -> Status
     ensures { TellsPlace place result index.old index.new }
 {
     Status::of_found(place.map_err(|_| ModelError::Memory), index)
 }
 
-/// Which op of a joint edit was at fault for its refusal, by its place among the ops, of which the first is 0. It is asked right after
-/// the refusal: `why` is the number of the status that was answered, and `left` the length of the joined text, both as in that call.
-/// For `Unknown`, `Range` and `Overlap` it is the first op with which those up to it are refused so. `Nothing` where there is none, as
-/// where texts are left over, and for any other status; `Memory` where there was none for the search.
+/// Finds the op for which `tm_raw_joint` was refused. Sets `index` to its index in the list, from 0. To be called right after the refusal:
+/// `why` is the number of that status, `left` the length of the joined text. For `Unknown`, `Range` and `Overlap` the ops up to it would be
+/// refused alike, those before it would not. `Nothing` if there is none, as when texts are left over, or for any other status; `Memory` if
+/// there is none for the search.
 #[unsafe(no_mangle)]
 pub extern "C" fn tm_raw_joint_fault(
     alloc: Global,
@@ -264,7 +264,7 @@ fn owns(model: &Model, owner: u64, id: u64) -> bool
     }
 }
 
-// Whether an id is named twice.
+// Returns whether an id is repeated.
 fn has_repeat(alloc: Global, ids: &[u64]) -> Result<bool, AllocError>
     ensures { IfOk result (λ answer. answer ≡ has_repeat ids.now) }
 {
@@ -273,7 +273,7 @@ fn has_repeat(alloc: Global, ids: &[u64]) -> Result<bool, AllocError>
     Ok(!sorted.is_sorted_by(|a, b| a < b))
 }
 
-// Whether one of the ids is not live or has another owner.
+// Returns whether one of the ids is not live or has another owner.
 fn names_another(model: &Model, owner: u64, ids: &[u64]) -> bool
     ensures { let marks = model.now.document.decorations.marks in
         result ≡ list_any (λ id. not (owns marks owner id)) ids.now }
@@ -291,7 +291,7 @@ fn is_unknown(alloc: Global, model: &Model, owner: u64, ids: &[u64]) -> Result<b
     has_repeat(alloc, ids)
 }
 
-/// One of the ids is not live, or has another owner, or is named twice.
+/// One of the ids is not live, has another owner or is repeated.
 #[derive(Drop)]
 struct UnknownIds<'m> {
     alloc: Global,
@@ -311,7 +311,7 @@ impl<'m> Fault<u64> for UnknownIds<'m> {
     }
 }
 
-// Whether the span is none of the text, or there is no such mode.
+// Returns whether the span or the mode is invalid.
 fn is_bad(model: &Model, new: NewDecoration) -> bool
     ensures { result ≡ is_bad model.now.document.kind model.now.document.units (new_deco_of new) }
 {
@@ -359,9 +359,9 @@ fn decoration_at_fault(
     Ok(None)
 }
 
-/// Which decoration `tm_raw_decorate` was refused for, asked as `tm_raw_joint_fault` is. For `Unknown` it is the place in `remove` of
-/// the first one with which those up to it are refused so, and for `Range` the place in `add` of the first one that is invalid.
-/// `Nothing` where there is none, and for any other status; `Memory` where there was none for the search.
+/// Finds the decoration for which `tm_raw_decorate` was refused, as `tm_raw_joint_fault` does. For `Unknown`, `index` is an index in
+/// `remove`: the ids up to it would be refused alike, those before it would not. For `Range`, it is the index in `add` of the first invalid
+/// one. `Nothing` if there is none, or for any other status; `Memory` if there is none for the search.
 #[unsafe(no_mangle)]
 pub extern "C" fn tm_raw_decorate_fault(
     alloc: Global,

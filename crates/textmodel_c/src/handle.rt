@@ -1,4 +1,4 @@
-//! What C holds of a session.
+//! The handle of a session, as C holds it.
 
 ghost use Rattle.std.specs.Prelude.{◌≡◌, Option, None, Some};
 ghost use Rattle.textmodel_c.specs.declared.contents.Contents.{Contents};
@@ -14,8 +14,8 @@ use std::marker::Model;
 use std::mem::replace;
 use std::ptr::null_mut;
 
-/// A session on the heap, or nothing where the address is null. It can't be dropped, so that no session is left behind unseen: what
-/// it holds is taken out.
+/// A session on the heap, or nothing if the address is null. A handle can't be dropped: its session must be taken out, so that no session
+/// leaks.
 #[repr(C)]
 pub struct Handle {
     at: *mut (),
@@ -23,7 +23,7 @@ pub struct Handle {
     pub ghost held: { Option Contents } by { held_coded },
 }
 
-/// What the handle holds, which is left empty. The call ends with `Empty` where it holds nothing.
+/// Takes the contents out of the handle. If it is empty, makes the caller return `Empty`.
 macro_rules! taken {
     ($handle:expr, $alloc:expr) => {
         match $handle.take($alloc) {
@@ -33,8 +33,7 @@ macro_rules! taken {
     };
 }
 
-/// `taken`, for a call on the document of this number. The call ends with `Unknown`, and the handle is as it was, where there is
-/// none.
+/// Like `taken`, for a call on one document. If the number is out of range, makes the caller return `Unknown`; the handle is unchanged.
 macro_rules! taken_for {
     ($handle:expr, $doc:expr, $alloc:expr) => {{
         let contents = match $handle.take($alloc) {
@@ -57,7 +56,7 @@ impl Model for Handle {
 }
 
 impl Handle {
-    /// The handle of nothing.
+    /// Makes an empty handle.
     pub(crate) fn empty(alloc: Global) -> Handle
         ensures { result.held ≡ None }
     {
@@ -90,7 +89,7 @@ impl Handle {
         })
     }
 
-    /// Takes out what the handle holds, and leaves it empty.
+    /// Takes the contents out of the handle, if any, and leaves it empty.
     pub(crate) fn take(&mut self, alloc: Global) -> Option<Box<Contents>>
         ensures taken { MatchOption result (self.old.held ≡ None)
             (λ contents. self.old.held ≡ Some contents.value) }
@@ -100,7 +99,7 @@ impl Handle {
         Some(raw.into_box())
     }
 
-    /// Puts this into the handle, in place of what it held.
+    /// Puts the contents into the handle. Frees what it held before.
     pub(crate) fn put(&mut self, contents: Box<Contents>)
         ensures { self.new.held ≡ Some contents.value }
     {

@@ -1,4 +1,4 @@
-//! A batch in each of several documents, all or none.
+//! Joint edits: batches in several documents, all or none.
 
 ghost use Rattle.std.specs.Prelude.{◌≡◌, All, Result, Ok, map, IfOk, OnOk, ⊤};
 ghost use Rattle.document_rules.specs.Refusals.{FlatRefusal};
@@ -19,8 +19,8 @@ use model_group::{DOC_COUNT, DocBatch, Group, GroupError};
 use std::alloc::{AllocError, Global};
 use std::str::from_utf8;
 
-/// An op of the batch of a document: so many units of the joined texts take the place of those of the document from `start` up to
-/// `end`. `force` moves decorations at the place to its end, whatever their stickiness.
+/// One edit of a joint edit. It replaces the span from `start` up to `end` of the document by the next `units` units of the joined text.
+/// `force` moves the decorations at the span to its end, whatever their stickiness.
 #[repr(C)]
 #[derive(Clone, Copy)]
 pub struct DocOp {
@@ -44,7 +44,7 @@ fn doc_op_of(alloc: Global, op: DocOp, text: &[u16]) -> Result<Op, AllocError>
     })
 }
 
-// Whether the last batch is of this document.
+// Returns whether the last batch is for this document.
 fn ends_in(batches: &[DocBatch], doc: u64) -> bool
     ensures { result ≡ ends_in (map flat_batch batches.now) doc }
 {
@@ -54,7 +54,7 @@ fn ends_in(batches: &[DocBatch], doc: u64) -> bool
     }
 }
 
-// The op is one more of the last batch where that is of its document, else the first of a batch behind it.
+// Appends the op to the last batch if that is for the same document. Otherwise starts a new batch with it.
 fn add_op(alloc: Global, batches: &mut Vec<DocBatch>, doc: u64, op: Op) -> Result<(), AllocError>
     ensures { OnOk result (map flat_batch batches.new.items
         ≡ with_op (map flat_batch batches.old.items) doc op) }
@@ -71,7 +71,7 @@ fn add_op(alloc: Global, batches: &mut Vec<DocBatch>, doc: u64, op: Op) -> Resul
     Ok(())
 }
 
-// The batches of the ops, whose texts stand one after another in the joined one and fill it.
+// Splits the ops into batches. `Range` if the ops do not use up the text exactly.
 fn batches_of(alloc: Global, ops: &[DocOp], text: &[u16]) -> Result<Vec<DocBatch>, GroupError>
     ensures batches { GivesBatches result (batches_of ops.now text.now) }
     ensures some { IfOk result (λ batches. All HasOps batches.items) }
@@ -106,7 +106,7 @@ fn error_of(error: ModelError) -> GroupError
     }
 }
 
-// A batch of one document, by itself.
+// Carries out a batch in one document.
 fn edit_one(group: &mut Group, batch: DocBatch) -> Result<(), GroupError>
     ensures { ChangesAll result (documents group.old) (documents group.new)
         (group_batch (flat_batch batch) (documents group.old)) }
@@ -118,7 +118,7 @@ fn edit_one(group: &mut Group, batch: DocBatch) -> Result<(), GroupError>
     group.edit(doc, ops).map_err(error_of)
 }
 
-// The batches, all or none.
+// Carries out the batches, all or none.
 fn edit_all(group: &mut Group, mut batches: Vec<DocBatch>) -> Result<(), GroupError>
     requires { All HasOps batches.items }
     ensures { ChangesAll result (documents group.old) (documents group.new)
@@ -146,11 +146,11 @@ fn edit_jointly(
     edit_all(group, batches)
 }
 
-/// Carries out a batch in each of several documents at once, or in one, all or none. Adjacent ops of one document are its batch. The
-/// texts of all ops stand one after another in `text`. In each of several documents it is a step of undo of its own, and an undo or a
-/// redo of one of these is one of all of them. `Range` where there is no op, or the texts do not fill theirs; else `Unknown` where a
-/// document is above 63 or comes again behind another; else `Range` where a span is invalid; else `Overlap` where two spans of a batch
-/// overlap; else `Limit` where a new text or a version would pass its limit.
+/// Carries out edits in one or several documents, all or none. Adjacent ops of one document are its batch. `text` has the texts of all ops,
+/// one after another. With several documents, each gets its own step of undo; these steps are undone and redone together. `Range` if there
+/// is no op, or the ops do not use up `text` exactly; else `Unknown` if a document number is above 63 or is repeated after another one;
+/// else `Range` if a span is invalid; else `Overlap` if two spans of a document overlap; else `Limit` if a new text or a version would pass
+/// its limit.
 #[unsafe(no_mangle)]
 pub extern "C" fn tm_raw_joint(
     alloc: Global,
@@ -167,7 +167,7 @@ pub extern "C" fn tm_raw_joint(
     Status::of_joint(answer).number()
 }
 
-// The op with the number of units of its text, which was told in bytes; None where that is not valid UTF-8.
+// Converts the length of the op's text from bytes of UTF-8 to units. Fails with `Range` if the text is not valid UTF-8.
 fn op_in_units(alloc: Global, op: DocOp, text: &[u8]) -> Result<DocOp, GroupError>
     ensures { CountsOp op text.now result }
 {
@@ -183,7 +183,7 @@ fn op_in_units(alloc: Global, op: DocOp, text: &[u8]) -> Result<DocOp, GroupErro
     })
 }
 
-// The ops, each with the number of units of its text in place of that of bytes.
+// Converts the lengths of all texts from bytes of UTF-8 to units.
 fn ops_in_units(alloc: Global, ops: &[DocOp], text: &[u8]) -> Result<Vec<DocOp>, GroupError>
     ensures { GivesOps result (ops_in_units ops.now text.now) }
 {
@@ -235,8 +235,8 @@ fn joint_in_utf8(
     Status::of_joint(answer).number()
 }
 
-/// `tm_raw_joint` of texts in UTF-8: `units` of an op is how many bytes its text has. `Encoding` where `text` is not valid, and then
-/// `bad` is the offset of the first byte at fault. `Range` also where the text of an op ends inside a character.
+/// Like `tm_raw_joint`, with texts in UTF-8; `units` of an op is in bytes. `Encoding` if `text` is invalid; `bad` is then the offset of the
+/// first invalid byte. `Range` also if the text of an op ends inside a character.
 #[unsafe(no_mangle)]
 pub extern "C" fn tm_raw_joint_utf8(
     alloc: Global,

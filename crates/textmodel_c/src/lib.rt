@@ -1,6 +1,6 @@
-//! The text model for C. Each call takes a handle, answers a status, and changes nothing where that is an error; on an empty handle
-//! it answers `Empty`. A handle holds a session of 64 documents. Calls on a document take its number, from 0 to 63, and answer
-//! `Unknown` where it is none. Offsets count UTF-16 units from 0, lines and columns count from 1.
+//! The text model for C. Each call takes a handle and returns a status. If that is an error, nothing has changed. On an empty handle the
+//! status is `Empty`. A handle holds a session of 64 documents, numbered from 0 to 63. A call with another number returns `Unknown`.
+//! Offsets count UTF-16 units from 0; lines and columns count from 1.
 #![tactic(auto)]
 
 mod answers;

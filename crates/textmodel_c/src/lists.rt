@@ -1,4 +1,4 @@
-//! Lists that are handed out.
+//! Copies lists to the caller.
 
 ghost use Rattle.std.specs.Prelude.{◌≡◌, length};
 ghost use Rattle.textmodel_c.specs.Told.{Listed, ListedFor};
@@ -6,8 +6,7 @@ ghost use Rattle.textmodel_c.specs.Told.{Listed, ListedFor};
 use crate::status::Status;
 use model_core::ModelError;
 
-// Puts the items at the front of `out`, and tells how many there are. `Short`, and nothing is put, where there is no room
-// for all.
+// Copies all items to the front of `out`. Sets `count` to their number. Returns `Short` and writes no item if `out` is too short.
 fn hand_out<T: Copy>(found: &[T], out: &mut [T], count: &mut u64) -> Status
     ensures { Listed result found.now out.old out.new count.new }
 {
@@ -20,7 +19,7 @@ fn hand_out<T: Copy>(found: &[T], out: &mut [T], count: &mut u64) -> Status
     Status::Ok
 }
 
-/// Hands the items out, where the call was not refused.
+/// Copies the items, or returns the status of the error.
 pub(crate) fn hand_out_of<T: Copy>(
     answer: Result<(), ModelError>,
     found: &[T],

@@ -15,8 +15,8 @@ use model_core::{Deco, Model, ModelError, NewDeco, Span};
 use model_group::Group;
 use std::alloc::{AllocError, Global};
 
-/// A decoration that is to be added. Its mode is 0 where it grows at both ends, 1 where at none, 2 where by what is typed
-/// before it only, and 3 where by what is typed after it only.
+/// A decoration to be added. Text typed at its ends makes it grow: mode 0 at both ends, 1 at neither, 2 at its start only, 3 at its end
+/// only.
 #[repr(C)]
 #[derive(Clone, Copy)]
 pub struct NewDecoration {
@@ -91,10 +91,9 @@ fn decorate(
     group.decorate(doc, owner, remove, &add)
 }
 
-/// Takes decorations of an owner out and puts new ones in, all of it or none, and tells the first new id, or the next free
-/// one where nothing is added. `Unknown` where a named one is not live, has another owner or is named twice; else
-/// `Range` where a span is invalid or a mode is above 3; else `Limit` where too many would be live, or an id
-/// would pass the greatest one.
+/// Removes decorations of an owner and adds new ones, all or none. Sets `first` to the first new id, or to the next free id if none is
+/// added. `Unknown` if an id to be removed is not live, has another owner or is repeated; else `Range` if a span is invalid or a mode is
+/// above 3; else `Limit` if too many would be live or an id would be too large.
 #[unsafe(no_mangle)]
 pub extern "C" fn tm_raw_decorate(
     alloc: Global,
@@ -114,7 +113,7 @@ pub extern "C" fn tm_raw_decorate(
     Status::of_given(answer, first).number()
 }
 
-/// The live decoration of this id; `Nothing` where there is none.
+/// Sets `decoration` to the live one with this id; `Nothing` if there is none.
 #[unsafe(no_mangle)]
 pub extern "C" fn tm_deco(
     alloc: Global,
@@ -184,9 +183,8 @@ fn decorations_out(
     hand_out_of(answer, &found, out, count)
 }
 
-/// The decorations that share a unit with the span from `start` up to `end`, or touch it, and how many they are: those of
-/// the owner, or all where `any` is set. `Range` where this is no span of the text; `Short` where `out` has no room for
-/// all.
+/// Lists the decorations that overlap or touch the span from `start` up to `end`: those of the owner, or all if `any` is set. Sets `count`
+/// to their number. `Range` if the span is invalid. `Short` if `out` is too short.
 #[unsafe(no_mangle)]
 pub extern "C" fn tm_raw_decos(
     alloc: Global,

@@ -1,4 +1,4 @@
-//! Mirrors of documents, and the events that they follow.
+//! Mirrors of documents, and the events that update them.
 
 ghost use Rattle.std.specs.Prelude.{◌≡◌, ◌<◌, ◌-◌, MatchBool};
 ghost use Rattle.std.specs.Option.{option_copied};
@@ -20,7 +20,7 @@ use script_lines::{Command, Refusal, Short};
 use sessions::{Follower, Outcome, Refused};
 use std::alloc::Global;
 
-/// A mirror after an event: its version, and how many units and lines its text has.
+/// A mirror after an event: its version, and the length of its text in units and in lines.
 #[repr(C)]
 #[derive(Clone, Copy)]
 pub struct Followed {
@@ -29,7 +29,7 @@ pub struct Followed {
     pub lines: u64,
 }
 
-// Carries out a command of a script on the document of this number.
+// Carries out a script command on this document.
 fn carry_out(contents: &mut Contents, doc: u64, command: Command) -> Status
     requires { doc < DOC_COUNT }
     ensures { CarriesOut result doc command contents.old contents.new }
@@ -38,8 +38,8 @@ fn carry_out(contents: &mut Contents, doc: u64, command: Command) -> Status
     status_of(&outcome)
 }
 
-// The same of an event for the mirror. Where events before it are missing, it is told which version the mirror has, and which one the
-// event begins with.
+// Delivers an event to the mirror. If earlier events are missing, sets `have` to the version of the mirror and `need` to the version from
+// which the event leads.
 fn take_event(
     contents: &mut Contents,
     doc: u64,
@@ -77,7 +77,7 @@ fn gap_out(outcome: &Outcome, have: &mut u64, need: &mut u64)
     }
 }
 
-// The status of what comes of a command.
+// Returns the status for the outcome of a command.
 fn status_of(outcome: &Outcome) -> Status
     ensures { IsStatusOf result outcome.now }
 {
@@ -88,14 +88,14 @@ fn status_of(outcome: &Outcome) -> Status
     }
 }
 
-// Whether the reply is that there was nothing to do.
+// Returns whether the reply says that there was nothing to do.
 fn says_nothing(reply: &[u8]) -> bool
     ensures { MatchBool result (SaysNothing reply.now) (¬ SaysNothing reply.now) }
 {
     reply == Short::none().as_slice() || reply == Short::old().as_slice()
 }
 
-// The mirror of the document of this number, if one was begun.
+// Returns the mirror of this document, if it has one.
 fn mirror_in(followers: &[Follower], doc: u64) -> Option<&Mirror>
     ensures { option_copied result ≡ mirror_in followers.now doc }
 {
@@ -115,8 +115,8 @@ fn begin_mirror(contents: &mut Contents, doc: u64, version: &mut u64) -> Status
     status
 }
 
-/// Begins a mirror of the document at the text of now, in place of the one that it had, and tells its version. `Memory` where there is
-/// none for it.
+/// Begins a mirror with the present text, in place of the document's old one. Sets `version` to its version. `Memory` if there is none for
+/// it.
 #[unsafe(no_mangle)]
 pub extern "C" fn tm_mirror(alloc: Global, handle: &mut Handle, doc: u64, version: &mut u64) -> u32
     ensures carried { LeavesWith result doc handle.old.held handle.new.held (version.new ≡ version.old)
@@ -128,7 +128,7 @@ pub extern "C" fn tm_mirror(alloc: Global, handle: &mut Handle, doc: u64, versio
     status.number()
 }
 
-// How many events were sent of the document of this number.
+// Returns how many events of this document were sent.
 fn sent_count(followers: &[Follower], doc: u64) -> u64
     ensures { result ≡ sent_count followers.now doc }
 {
@@ -154,8 +154,8 @@ fn send(contents: &mut Contents, doc: u64, number: &mut u64, from: &mut u64) -> 
     status
 }
 
-/// Sends the document's last change as an event, and tells its number, from 1 on, and the version from which it leads to the next one.
-/// `Nothing` in version 1; `Limit` where 2^16 were sent.
+/// Sends the document's last change as an event. Sets `number` to its number, from 1 on, and `from` to the version before the change.
+/// `Nothing` in version 1; `Limit` if 2^16 events were sent.
 #[unsafe(no_mangle)]
 pub extern "C" fn tm_send(
     alloc: Global,
@@ -206,9 +206,9 @@ fn deliver(
     status
 }
 
-/// Hands the event of this number to the mirror of the document, which then has the text of the next version, and tells of it. `Nothing`
-/// where the mirror has that text or a later one; `Unknown` where there is no such event, or no mirror; `Gap` where events before it
-/// are missing: `have` is then the version of the mirror, and `need` the one that the event begins with.
+/// Delivers the event of this number to the document's mirror, which then has the next version. Sets `followed` to the mirror's state.
+/// `Nothing` if the mirror has that version or a later one; `Unknown` if there is no such event or no mirror; `Gap` if earlier events are
+/// missing: `have` is then the mirror's version, `need` the version from which the event leads.
 #[unsafe(no_mangle)]
 pub extern "C" fn tm_raw_deliver(
     alloc: Global,
@@ -228,7 +228,7 @@ pub extern "C" fn tm_raw_deliver(
     status.number()
 }
 
-/// What the mirror of the document is; `Nothing` where it has none.
+/// Sets `followed` to the mirror's state; `Nothing` if there is no mirror.
 #[unsafe(no_mangle)]
 pub extern "C" fn tm_mirror_now(
     alloc: Global,
@@ -282,8 +282,8 @@ fn mirrored_out(
     hand_out_of(answer, &units, out, count)
 }
 
-/// The content of the line of this number of the document's mirror, and how many units it has. `Unknown` where there is no mirror;
-/// `Range` where it has no such line; `Short` where `out` has no room for all.
+/// Copies the content of a line of the document's mirror. Sets `count` to its length in units. `Unknown` if there is no mirror. `Range` if
+/// there is no such line. `Short` if `out` is too short.
 #[unsafe(no_mangle)]
 pub extern "C" fn tm_raw_mirrored(
     alloc: Global,
@@ -319,7 +319,7 @@ fn mirrored_utf8_out(
     utf8_out(alloc, answer, &units, out, count)
 }
 
-/// `tm_raw_mirrored` in UTF-8, and how many bytes it has. A lone surrogate becomes U+FFFD.
+/// Like `tm_raw_mirrored`, in UTF-8; `count` is in bytes. A lone surrogate becomes U+FFFD.
 #[unsafe(no_mangle)]
 pub extern "C" fn tm_raw_mirrored_utf8(
     alloc: Global,

@@ -1,4 +1,4 @@
-//! A new document is opened.
+//! Opens a new document.
 
 ghost use Rattle.std.specs.Prelude.{◌≡◌, ◌+◌, ◌<◌, ◌≤◌, length, IfOk, IfNone, IfSome};
 ghost use Rattle.document_rules.specs.Outcomes.{Gives};
@@ -16,7 +16,7 @@ use sessions::Session;
 use std::alloc::{AllocError, Global};
 use unit_text::Kind;
 
-/// How many units the two texts of a pair of brackets have.
+/// The lengths of the two texts of a bracket pair, in units.
 #[repr(C)]
 #[derive(Clone, Copy)]
 pub struct PairUnits {
@@ -24,7 +24,7 @@ pub struct PairUnits {
     pub closing: u64,
 }
 
-/// The kind of line ending of this number.
+/// Returns the kind of line endings with this number.
 pub(crate) fn kind_of(number: u32) -> Option<Kind>
     ensures { result ≡ kind_of number }
 {
@@ -36,7 +36,7 @@ pub(crate) fn kind_of(number: u32) -> Option<Kind>
     }
 }
 
-// The pairs with their texts, which stand one after another in the joined one and fill it.
+// Splits the joined text among the pairs. `Range` if they do not use it up exactly.
 fn pairs_of(
     alloc: Global,
     pairs: &[PairUnits],
@@ -59,7 +59,7 @@ fn pairs_of(
     Ok(found)
 }
 
-// How many units the two texts of the pair have, where so many are left.
+// Returns the length of both texts of the pair together; None if it is above `left`.
 fn units_of_pair(pair: PairUnits, left: usize) -> Option<usize>
     ensures none { IfNone result (left < pair.opening + pair.closing) }
     ensures some { IfSome result (λ units. units ≡ pair.opening + pair.closing) }
@@ -79,7 +79,7 @@ fn pair_of(alloc: Global, pair: PairUnits, text: &[u16]) -> Result<(Units, Units
     Ok((opening, closing))
 }
 
-// The brackets of the pairs, or the usual ones where there is no pair.
+// Returns the bracket table of the pairs, or the standard one if there are none.
 fn table_of(
     alloc: Global,
     pairs: &[PairUnits],
@@ -98,7 +98,7 @@ fn table_of(
     }
 }
 
-// The text that begins a line comment; None where it has no unit.
+// Returns the text that begins a line comment; None if it is empty.
 fn line_mark(alloc: Global, text: &[u16]) -> Result<Option<Units>, AllocError>
     ensures { IfOk result (λ mark. mark ≡ line_mark text.now) }
 {
@@ -108,7 +108,7 @@ fn line_mark(alloc: Global, text: &[u16]) -> Result<Option<Units>, AllocError>
     Ok(Some(Units::copy_of(alloc, text)?))
 }
 
-// The texts that begin and end a block comment; None where they have no unit.
+// Returns the texts that begin and end a block comment; None if both are empty.
 fn block_marks(
     alloc: Global,
     block: PairUnits,
@@ -136,7 +136,7 @@ fn checked(
     }
 }
 
-// What the marks hide, of which the first has so many units.
+// Splits `marks`. The first `line` units begin a line comment.
 fn hiding_of(
     alloc: Global,
     line: u64,
@@ -178,15 +178,14 @@ fn open_as(
     session.open_doc(doc, text, table, kind, hiding)
 }
 
-/// Puts a new document with this text in place of the one of this number. `kind` is 0 for line endings as they come, 1 for LF and 2
-/// for CR LF, which the text then gets.
+/// Replaces this document by a new one with this text. `kind` is 0 to keep mixed line endings, 1 to change all to LF, 2 to CR LF.
 ///
-/// The brackets are 1 to 64 pairs, whose texts stand one after another in `brackets`, each with 1 to 32 units without CR or LF, and
-/// all of them distinct; or `()`, `[]` and `{}`, where there is no pair. Brackets in comments and strings are hidden: `marks` has,
-/// one after another, the text of `line` units that begins a line comment, the texts of `opening` and `closing` units that begin and
-/// end a block comment, and up to 8 quotes of one unit each. A text of no unit means that there is none.
+/// There are 1 to 64 bracket pairs. Their texts are in `brackets`, one after another: each has 1 to 32 units without CR or LF, and all
+/// differ. Without pairs the brackets are `()`, `[]` and `{}`. Brackets in comments and strings are ignored. `marks` has, one after
+/// another, the text of `line` units that begins a line comment, the texts of `opening` and `closing` units that begin and end a block
+/// comment, and up to 8 quotes of one unit each. An empty text means that there is no such comment.
 ///
-/// `Range` where the kind, the pairs or the marks are invalid, else `Limit` where the text would be too long.
+/// `Range` if the kind, the pairs or the marks are invalid, else `Limit` if the text would be too long.
 #[unsafe(no_mangle)]
 pub extern "C" fn tm_raw_open(
     alloc: Global,
@@ -219,7 +218,7 @@ pub extern "C" fn tm_raw_open(
     status.number()
 }
 
-/// `tm_raw_open` of a text in UTF-8. `Encoding` where it is not valid: `bad` is then the offset of the first byte at fault.
+/// Like `tm_raw_open`, with a text in UTF-8. `Encoding` if it is invalid; `bad` is then the offset of the first invalid byte.
 #[unsafe(no_mangle)]
 pub extern "C" fn tm_raw_open_utf8(
     alloc: Global,

@@ -1,4 +1,4 @@
-//! Offsets and positions. A column counts bytes of UTF-8, units of UTF-16 or code points, as an encoding says.
+//! Converts between offsets and positions. The encoding is the unit of columns: bytes of UTF-8, UTF-16 units or code points.
 
 ghost use Rattle.std.specs.Prelude.{◌≡◌, ◌+◌, ◌*◌, ◌≤◌, true, length, Ok, Err, IfSome, option_map};
 ghost use Rattle.document_rules.specs.Outcomes.{Gives};
@@ -14,7 +14,7 @@ use model_core::{Encoding, Model, ModelError, Position};
 use std::alloc::Global;
 use steps::Steps;
 
-/// A place as a line and a column, both counted from 1.
+/// A line and a column, both counted from 1.
 #[repr(C)]
 #[derive(Clone, Copy)]
 pub struct Place {
@@ -22,7 +22,7 @@ pub struct Place {
     pub column: u64,
 }
 
-/// What a column of this number counts.
+/// Returns the encoding with this number.
 pub(crate) fn encoding_of(number: u32) -> Option<Encoding>
     ensures { result ≡ encoding_of number }
 {
@@ -44,7 +44,7 @@ pub(crate) fn is_utf16(encoding: Encoding) -> bool
     }
 }
 
-// How many bytes, units or code points the content of a line has.
+// Returns the length of a line's content in the encoding.
 fn length_in(encoding: Encoding, content: &[u16]) -> u64
     ensures length { result ≡ length_in encoding content.now }
     ensures small { result ≤ 3 * length content.now }
@@ -52,7 +52,7 @@ fn length_in(encoding: Encoding, content: &[u16]) -> u64
     column_in(encoding, content, content.len() as u64).unwrap_or(0)
 }
 
-// How many of them stand before a place of a line. In a mixed document the LF of a CR LF is a place too, one behind the content.
+// Converts an offset in a line into the encoding. In a mixed document the offset between CR and LF is valid: one beyond the content.
 pub(crate) fn column_before(encoding: Encoding, content: &[u16], before: u64) -> Option<u64>
     ensures column { result ≡ column_before encoding content.now before }
     ensures small { IfSome result (λ column. column ≤ 3 * length content.now + 1) }
@@ -63,7 +63,7 @@ pub(crate) fn column_before(encoding: Encoding, content: &[u16], before: u64) ->
     column_in(encoding, content, before)
 }
 
-// The column in units of one that is counted otherwise.
+// Converts a column of the encoding into one in UTF-16 units.
 fn units_column(encoding: Encoding, column: u64, content: &[u16]) -> Option<u64>
     ensures { result ≡ units_column encoding column content.now }
 {
@@ -75,7 +75,7 @@ fn units_column(encoding: Encoding, column: u64, content: &[u16]) -> Option<u64>
     Some(offset + 1)
 }
 
-/// The column of a position in units.
+/// Converts a position's column from UTF-16 units into the encoding.
 pub(crate) fn column_as(
     alloc: Global,
     model: &Model,
@@ -93,7 +93,7 @@ pub(crate) fn column_as(
     column_at(encoding, at.column, &content).ok_or(ModelError::Range)
 }
 
-// The column of a place in units of a line, where there is such a place.
+// Converts a column from UTF-16 units into the encoding; None if it is invalid.
 fn column_at(encoding: Encoding, column: u64, content: &[u16]) -> Option<u64>
     ensures { result ≡ column_at encoding column content.now }
 {
@@ -102,7 +102,7 @@ fn column_at(encoding: Encoding, column: u64, content: &[u16]) -> Option<u64>
     Some(stand + 1)
 }
 
-// A position in units as a place.
+// Converts a position from UTF-16 units into the encoding.
 fn place_in(
     alloc: Global,
     model: &Model,
@@ -133,8 +133,8 @@ fn place_as(
     }
 }
 
-/// The position of the offset; `Nothing` where it is no place of the text. The column counts by `encoding`, which is 8, 16 or 32,
-/// bytes of UTF-8, units of UTF-16 or code points; `Range` where it is another number. It takes no memory where this is 16.
+/// Converts `offset` into the position `place`. `encoding` is the unit of the column: 8 for bytes of UTF-8, 16 for UTF-16 units, 32 for
+/// code points. `Nothing` if the offset is invalid, `Range` if the encoding is. Never `Memory` if the encoding is 16.
 #[unsafe(no_mangle)]
 pub extern "C" fn tm_position(
     alloc: Global,
@@ -155,7 +155,7 @@ pub extern "C" fn tm_position(
     Status::of_found(answer, place).number()
 }
 
-/// The position in units of one that is counted otherwise; None where its line or its column is invalid.
+/// Converts a position of the encoding into UTF-16 units; None if its line or column is invalid.
 pub(crate) fn position_in(
     alloc: Global,
     model: &Model,
@@ -199,8 +199,8 @@ fn offset_as(
     }
 }
 
-/// The offset of the position, whose column counts as in `tm_position`; `Nothing` where it is invalid, `Range` where the encoding
-/// is. It takes no memory where the encoding is 16.
+/// Converts a position into an `offset`. The column counts as in `tm_position`. `Nothing` if the position is invalid, `Range` if the
+/// encoding is. Never `Memory` if the encoding is 16.
 #[unsafe(no_mangle)]
 pub extern "C" fn tm_offset(
     alloc: Global,

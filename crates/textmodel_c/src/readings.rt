@@ -1,4 +1,4 @@
-//! Snapshots, and where a cursor may stop.
+//! Snapshots, and the stops of a cursor.
 
 ghost use Rattle.std.specs.Prelude.{◌≡◌, ◌<◌, [], Err, length};
 ghost use Rattle.group_rules.specs.declared.TheConstants.{DOC_COUNT};
@@ -28,8 +28,8 @@ fn snapshot(group: &mut Group, doc: u64) -> Result<u64, ModelError>
     group.snapshot(doc)
 }
 
-/// Keeps the text of now, to be read from its front, and tells its id. `Limit` where 1,000 are open, or where the id would
-/// pass 2^63 - 1.
+/// Opens a snapshot of the present text, to be read from its start. Sets `id` to its id. `Limit` if 1,000 are open or the id would be above
+/// 2^63 - 1.
 #[unsafe(no_mangle)]
 pub extern "C" fn tm_snapshot(alloc: Global, handle: &mut Handle, doc: u64, id: &mut u64) -> u32
     ensures document { LeavesWith result doc handle.old.held handle.new.held (id.new ≡ id.old)
@@ -77,9 +77,8 @@ fn read_out(
     status
 }
 
-/// Reads a snapshot: as many of the first units of what is left of it as `out` has room for, one fewer where the last would
-/// be half of a pair of surrogates, and how many they are; they are no longer left then. `Unknown` where no snapshot of
-/// this id is open; else `Range` where `out` has room for fewer than two.
+/// Reads on in a snapshot: copies as many of its next units as fit into `out`, one fewer if that would split a surrogate pair. Sets `count`
+/// to their number. `Unknown` if no snapshot with this id is open; else `Range` if `out` has room for less than 2 units.
 #[unsafe(no_mangle)]
 pub extern "C" fn tm_raw_read(
     alloc: Global,
@@ -141,8 +140,8 @@ fn read_utf8_out(
     status
 }
 
-/// `tm_raw_read` in UTF-8: as many of the next units as certainly have room, of which each takes at most three bytes, and how many
-/// bytes they have. `Unknown` where no snapshot of this id is open; else `Range` where `out` has room for fewer than six.
+/// Like `tm_raw_read`, in UTF-8. Reads at most a third as many units as `out` has bytes, since a unit takes at most 3. Sets `count` to the
+/// number of bytes. `Unknown` if no snapshot with this id is open; else `Range` if `out` has room for less than 6 bytes.
 #[unsafe(no_mangle)]
 pub extern "C" fn tm_raw_read_utf8(
     alloc: Global,
@@ -170,8 +169,7 @@ fn close(group: &mut Group, doc: u64, id: u64) -> Result<(), ModelError>
     group.close(doc, id)
 }
 
-/// Closes a snapshot: it is no longer open, and its id is not used again. `Unknown` where no snapshot of this id is open. It takes no
-/// memory.
+/// Closes a snapshot. Its id is not used again. `Unknown` if no snapshot with this id is open. Never `Memory`.
 #[unsafe(no_mangle)]
 pub extern "C" fn tm_close(alloc: Global, handle: &mut Handle, doc: u64, id: u64) -> u32
     ensures document { Leaves result doc handle.old.held handle.new.held
@@ -184,7 +182,7 @@ pub extern "C" fn tm_close(alloc: Global, handle: &mut Handle, doc: u64, id: u64
     Status::of_done(answer).number()
 }
 
-// The columns of a line, counted otherwise.
+// Converts columns of a line from UTF-16 units into the encoding.
 fn append_columns(
     alloc: Global,
     model: &Model,
@@ -243,8 +241,8 @@ fn stops_out(
     hand_out_of(answer, &found, out, count)
 }
 
-/// The columns at which a cursor may stop in the line of this number, and how many they are. They count by `encoding`, as in
-/// `tm_position`. `Range` where there is no such line, or the encoding is invalid; `Short` where `out` has no room for all.
+/// Lists the columns of a line at which a cursor may stop. Sets `count` to their number. `encoding` is their unit, as in `tm_position`.
+/// `Range` if there is no such line or the encoding is invalid; `Short` if `out` is too short.
 #[unsafe(no_mangle)]
 pub extern "C" fn tm_raw_stops(
     alloc: Global,

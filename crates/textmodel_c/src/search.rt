@@ -1,4 +1,4 @@
-//! Where a text stands in the document, and a replace of all of it.
+//! Finds a text in the document, and replaces all occurrences.
 
 ghost use Rattle.std.specs.Prelude.{◌≡◌, ◌<◌, [], length, filter, map, take, IfOk, OnOk};
 ghost use Rattle.document_rules.specs.Outcomes.{Moves};
@@ -18,7 +18,7 @@ use model_group::Group;
 use std::alloc::{AllocError, Global};
 use steps::Steps;
 
-/// A span of the text at which the sought one stands.
+/// A span at which the sought text occurs.
 #[repr(C)]
 #[derive(Clone, Copy)]
 pub struct Found {
@@ -35,7 +35,7 @@ fn found_of(span: Span) -> Found
     }
 }
 
-// Whether a span begins at a place or behind it, or with `back` ends at it or before it.
+// Returns whether the span starts at or after `from`; with `back`, whether it ends at or before it.
 fn is_within(span: Span, from: u64, back: bool) -> bool
     ensures { result ≡ is_within from back span }
 {
@@ -46,7 +46,7 @@ fn is_within(span: Span, from: u64, back: bool) -> bool
     }
 }
 
-// The spans of this kind, in their order.
+// Appends the spans of `is_within` in order.
 fn append_within(
     spans: &[Span],
     from: u64,
@@ -125,9 +125,9 @@ fn found_out(
     hand_out_of(answer, &found, out, count)
 }
 
-/// The spans at which the text stands, and how many they are. None of them overlaps the one before. Those that begin at `from` or
-/// behind it, from left to right; or with `back` those that end at `from` or before it, the last one first. `most` of them at most.
-/// `Range` where the text is empty; `Short` where `out` has no room for all.
+/// Lists where the sought text occurs, at most `most` spans, none of which overlap. They start at or after `from`, from left to right; with
+/// `back` they end at or before `from`, the last one first. Sets `count` to their number. `Range` if the sought text is empty; `Short` if
+/// `out` is too short.
 #[unsafe(no_mangle)]
 pub extern "C" fn tm_raw_find(
     alloc: Global,
@@ -151,7 +151,7 @@ pub extern "C" fn tm_raw_find(
     status.number()
 }
 
-/// `tm_raw_find` of a text in UTF-8. `Encoding` where it is not valid: `bad` is then the offset of the first byte at fault.
+/// Like `tm_raw_find`, with a text in UTF-8. `Encoding` if it is invalid; `bad` is then the offset of the first invalid byte.
 #[unsafe(no_mangle)]
 pub extern "C" fn tm_raw_find_utf8(
     alloc: Global,
@@ -174,7 +174,7 @@ pub extern "C" fn tm_raw_find_utf8(
     tm_raw_find(alloc, handle, doc, &units, from, back, most, out, count)
 }
 
-// How many times the text stands in the document.
+// Returns how many times the text occurs in the document.
 fn count_found(alloc: Global, model: &Model, sought: &[u16]) -> Result<u64, AllocError>
     requires { 0 < length sought.now }
     ensures { IfOk result (λ n. n ≡ length (flat_find model.now.document sought.now)) }
@@ -221,9 +221,9 @@ fn replace_some(
     Ok(is_changed)
 }
 
-/// Puts a text in the place of each span that `tm_raw_find` finds, at once, as the next version and as a step of undo of its own, and
-/// tells how many these are; `Nothing` where nothing is found. `Range` where the sought text is empty, else `Limit` where the new text
-/// or the version would pass its limit.
+/// Replaces all occurrences that `tm_raw_find` finds, as one change. The version goes up by 1. The change is its own step of undo. Sets
+/// `count` to their number; `Nothing` if there are none. `Range` if the sought text is empty, else `Limit` if the new text or the version
+/// would pass its limit.
 #[unsafe(no_mangle)]
 pub extern "C" fn tm_raw_replace_all(
     alloc: Global,
@@ -243,8 +243,8 @@ pub extern "C" fn tm_raw_replace_all(
     Status::of_step(answer).number()
 }
 
-/// `tm_raw_replace_all` of texts in UTF-8. `Encoding` where one of them is not valid: `bad` is then the offset of the first byte at
-/// fault, in the sought text if that is not valid.
+/// Like `tm_raw_replace_all`, with texts in UTF-8. `Encoding` if one is invalid; `bad` is then the offset of its first invalid byte. The
+/// sought text is checked first.
 #[unsafe(no_mangle)]
 pub extern "C" fn tm_raw_replace_all_utf8(
     alloc: Global,

@@ -1,4 +1,4 @@
-//! How a call ended.
+//! The status of a call.
 
 ghost use Rattle.std.specs.Prelude.{◌≡◌};
 ghost use Rattle.textmodel_c.specs.Statuses.{number_of, status_of_error, status_of_group_error, status_of_refusal, status_of_step, status_of_going, status_of_joint, status_of_given, given_or, status_of_found, found_or};
@@ -8,7 +8,7 @@ use model_core::ModelError;
 use model_group::GroupError;
 use script_lines::Refusal;
 
-/// How a call ended: `Ok` or `Nothing`, or why it changed nothing.
+/// The status of a call: `Ok`, `Nothing`, or the reason why nothing was changed.
 #[derive(Clone, Copy)]
 pub enum Status {
     Ok,
@@ -28,16 +28,16 @@ pub enum Status {
     Encoding,
     /// The handle holds nothing.
     Empty,
-    /// The place for the answer is too short.
+    /// The buffer for the answer is too short.
     Short,
-    /// A step of several documents is not the next one of each of them.
+    /// A step of a joint edit is not the next one in each of its documents.
     Joint,
-    /// Events before this one are missing.
+    /// A mirror lacks earlier events.
     Gap,
 }
 
 impl Status {
-    /// The number that C has for the status.
+    /// Returns the number of the status in C.
     pub(crate) fn number(self) -> u32
         ensures { result ≡ number_of self }
     {
@@ -82,7 +82,7 @@ impl Status {
         }
     }
 
-    /// The status of a command of a script that is refused for this reason.
+    /// Returns the status for a refused script command.
     pub(crate) fn of_refusal(reason: Refusal) -> Status
         ensures { result ≡ status_of_refusal reason }
     {
@@ -98,7 +98,7 @@ impl Status {
         }
     }
 
-    /// The status of a call that answers nothing.
+    /// Returns the status of a call without a result.
     pub(crate) fn of_done(answer: Result<(), ModelError>) -> Status
         ensures { result ≡ status_of_given answer }
     {
@@ -108,7 +108,7 @@ impl Status {
         }
     }
 
-    /// The status of a call that answers whether there was anything to do.
+    /// Returns the status of a call that may have nothing to do.
     pub(crate) fn of_step(answer: Result<bool, ModelError>) -> Status
         ensures { result ≡ status_of_step answer }
     {
@@ -119,7 +119,7 @@ impl Status {
         }
     }
 
-    /// The same of one that several documents may take part in. The document that stands in the way is handed out, where one does.
+    /// Like `of_step`, for undo and redo. On `Joint`, sets `other` to the document in the way.
     pub(crate) fn of_going(answer: Result<bool, GroupError>, other: &mut u64) -> Status
         ensures status { result ≡ status_of_going answer }
         ensures other { other.new ≡ other_or other.old answer }
@@ -136,7 +136,7 @@ impl Status {
         }
     }
 
-    /// The status of a call on several documents that answers nothing.
+    /// Returns the status of a call on several documents without a result.
     pub(crate) fn of_joint(answer: Result<(), GroupError>) -> Status
         ensures { result ≡ status_of_joint answer }
     {
@@ -146,7 +146,7 @@ impl Status {
         }
     }
 
-    /// The status of a call that answers something where there is anything, which is handed out.
+    /// Stores the result, if there is one, and returns the status.
     pub(crate) fn of_found<T: Copy>(answer: Result<Option<T>, ModelError>, out: &mut T) -> Status
         ensures status { result ≡ status_of_found answer }
         ensures given { out.new ≡ found_or out.old answer }
@@ -161,7 +161,7 @@ impl Status {
         }
     }
 
-    /// The status of a call that answers a number, which is handed out.
+    /// Stores the number, if there is one, and returns the status.
     pub(crate) fn of_given(answer: Result<u64, ModelError>, out: &mut u64) -> Status
         ensures status { result ≡ status_of_given answer }
         ensures given { out.new ≡ given_or out.old answer }

@@ -1,4 +1,4 @@
-//! The edits of a document's last change, which are told one after another.
+//! The edits of a document's last change, one after another.
 
 ghost use Rattle.std.specs.Prelude.{◌≡◌, ◌==◌, ◌&&◌, ◌++◌, nat_lt, length, Some, slice_get, drop, IfOk};
 ghost use Rattle.std.specs.Bool.{OnTrue, OnFalse};
@@ -10,8 +10,8 @@ use model_core::{Changes, ContentChange, Model as Document};
 use std::alloc::{AllocError, Global};
 use std::marker::Model;
 
-/// An edit of a document's last change: so many units take the place of those from `start` up to `end`. These offsets count in the
-/// text that the edits before it left.
+/// An edit of a document's last change: `units` units replace those from `start` up to `end`. These offsets refer to the text after the
+/// edits before it.
 #[repr(C)]
 #[derive(Clone, Copy)]
 pub struct Change {
@@ -20,7 +20,7 @@ pub struct Change {
     pub units: u64,
 }
 
-/// The edit of a document's last change that was told last, and those that are left to tell.
+/// The progress of `tm_next_change`: the present edit of the last change, and those after it.
 #[derive(Drop)]
 pub struct Telling {
     doc: u64,
@@ -29,7 +29,7 @@ pub struct Telling {
     edits: Vec<Change>,
     /// The texts of all edits, one after another.
     texts: Vec<u16>,
-    /// Which edit was told last, from 0 on, and where its text begins.
+    /// The index of the present edit, and the offset of its text in `texts`.
     at: usize,
     from: usize,
 }
@@ -51,7 +51,7 @@ impl Model for Telling {
 }
 
 impl Telling {
-    /// Tells the first edit of the document's last change; None where it has none.
+    /// Starts with the first edit of the document's last change; None if there is no edit.
     pub(crate) fn of(
         alloc: Global,
         doc: u64,
@@ -74,14 +74,14 @@ impl Telling {
         }))
     }
 
-    /// Whether it is of this version of the document of this number.
+    /// Returns whether this is for the given document and version.
     pub(crate) fn is_of(&self, doc: u64, version: u64) -> bool
         ensures { result ≡ (self.now.doc == doc && self.now.version == version) }
     {
         self.doc == doc && self.version == version
     }
 
-    /// Tells the next edit; `false` where there is none.
+    /// Moves on to the next edit; returns false if there is none.
     pub(crate) fn go_on(&mut self) -> bool
         ensures some { result ≡ nat_lt 1 (length self.old.edits) }
         ensures told { OnTrue result (self.new ≡ record self.old { edits = drop 1 self.old.edits }) }
@@ -95,14 +95,14 @@ impl Telling {
         true
     }
 
-    /// The edit that was told last.
+    /// Returns the present edit.
     pub(crate) fn last(&self) -> Change
         ensures { told_edit self.now.edits ≡ Some result }
     {
         self.edits[self.at]
     }
 
-    /// The text of the edit that was told last.
+    /// Returns the text of the present edit.
     pub(crate) fn text(&self) -> &[u16]
         ensures { result.now ≡ told_text self.now.edits }
     {
@@ -113,7 +113,7 @@ impl Telling {
     }
 }
 
-// The edits, and their texts one after another.
+// Collects the edits, and their texts one after another.
 fn collected(alloc: Global, mut changes: Changes<'_>) -> Result<(Vec<Change>, Vec<u16>), AllocError>
     ensures edits { IfOk result (λ both. edits_in both.0.items both.1.items ≡ changes.entry) }
     ensures texts { IfOk result (λ both. units_in both.0.items ≡ length both.1.items) }

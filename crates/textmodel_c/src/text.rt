@@ -1,4 +1,4 @@
-//! A session is made and freed, and the text of a document is asked for.
+//! Makes and frees sessions, and reads the text of a document.
 
 ghost use Rattle.std.specs.Prelude.{◌≡◌, Some, None, length, is_some, slice_get};
 ghost use Rattle.document_rules.specs.Document.{flat_line, flat_value, flat_line_count};
@@ -15,10 +15,10 @@ use model_core::{Model, Span};
 use std::alloc::Global;
 use unit_text::Kind;
 
-/// A unit takes at most so many bytes of UTF-8.
+/// A unit takes at most 3 bytes in UTF-8.
 pub(crate) const MOST_BYTES_A_UNIT: u64 = 3;
 
-/// Puts a session of 64 new empty documents into the handle, in place of what it held. `Memory` where there is none for it.
+/// Puts a new session of 64 empty documents into the handle. Frees what it held before. `Memory` if there is none for it.
 #[unsafe(no_mangle)]
 pub extern "C" fn tm_make(alloc: Global, handle: &mut Handle) -> u32
     ensures { Made result handle.old.held handle.new.held }
@@ -30,7 +30,7 @@ pub extern "C" fn tm_make(alloc: Global, handle: &mut Handle) -> u32
     Status::Ok.number()
 }
 
-/// Frees what the handle holds, if it holds anything, and leaves it empty.
+/// Frees the session, if any. The handle is empty then.
 #[unsafe(no_mangle)]
 pub extern "C" fn tm_free(alloc: Global, handle: &mut Handle) -> u32
     ensures left { handle.new.held ≡ None }
@@ -42,7 +42,7 @@ pub extern "C" fn tm_free(alloc: Global, handle: &mut Handle) -> u32
     Status::Ok.number()
 }
 
-/// How many units the text has.
+/// Sets `len` to the length of the text in units.
 #[unsafe(no_mangle)]
 pub extern "C" fn tm_len(alloc: Global, handle: &mut Handle, doc: u64, len: &mut u64) -> u32
     ensures kept { handle.new.held ≡ handle.old.held }
@@ -55,7 +55,7 @@ pub extern "C" fn tm_len(alloc: Global, handle: &mut Handle, doc: u64, len: &mut
     Status::Ok.number()
 }
 
-/// How many lines the text has.
+/// Sets `count` to the number of lines.
 #[unsafe(no_mangle)]
 pub extern "C" fn tm_line_count(
     alloc: Global,
@@ -83,7 +83,7 @@ fn number_of_kind(kind: Kind) -> u32
     }
 }
 
-/// The kind of line ending that all those of the text are of: 0 for any, 1 for LF, 2 for CR LF.
+/// Sets `kind` to the kind of line endings: 0 for mixed, 1 for LF, 2 for CR LF.
 #[unsafe(no_mangle)]
 pub extern "C" fn tm_kind(alloc: Global, handle: &mut Handle, doc: u64, kind: &mut u32) -> u32
     ensures kept { handle.new.held ≡ handle.old.held }
@@ -96,7 +96,7 @@ pub extern "C" fn tm_kind(alloc: Global, handle: &mut Handle, doc: u64, kind: &m
     Status::Ok.number()
 }
 
-/// The version, and the version at which the text was last as it is now.
+/// Sets `version`, and `alternative` to the version at which the text was last the same as now.
 #[unsafe(no_mangle)]
 pub extern "C" fn tm_versions(
     alloc: Global,
@@ -117,7 +117,7 @@ pub extern "C" fn tm_versions(
     Status::Ok.number()
 }
 
-/// Whether there is a step to undo; `Nothing` where there is none.
+/// Returns `Ok` if there is a step to undo, else `Nothing`.
 #[unsafe(no_mangle)]
 pub extern "C" fn tm_can_undo(alloc: Global, handle: &mut Handle, doc: u64) -> u32
     ensures kept { handle.new.held ≡ handle.old.held }
@@ -130,7 +130,7 @@ pub extern "C" fn tm_can_undo(alloc: Global, handle: &mut Handle, doc: u64) -> u
     Status::of_step(Ok(can)).number()
 }
 
-/// Whether there is a step to make again; `Nothing` where there is none.
+/// Returns `Ok` if there is a step to redo, else `Nothing`.
 #[unsafe(no_mangle)]
 pub extern "C" fn tm_can_redo(alloc: Global, handle: &mut Handle, doc: u64) -> u32
     ensures kept { handle.new.held ≡ handle.old.held }
@@ -151,8 +151,7 @@ fn value_out(alloc: Global, model: &Model, span: Span, out: &mut [u16], count: &
     hand_out_of(answer, &units, out, count)
 }
 
-/// The units from `start` up to `end`, and how many they are. `Range` where this is no span of the text; `Short` where
-/// `out` has no room for all.
+/// Copies the units from `start` up to `end`. Sets `count` to their number. `Range` if the span is invalid. `Short` if `out` is too short.
 #[unsafe(no_mangle)]
 pub extern "C" fn tm_raw_value(
     alloc: Global,
@@ -194,7 +193,7 @@ fn value_utf8_out(
     utf8_out(alloc, answer, &units, out, count)
 }
 
-/// `tm_raw_value` in UTF-8, and how many bytes it has. A lone surrogate becomes U+FFFD.
+/// Like `tm_raw_value`, in UTF-8; `count` is in bytes. A lone surrogate becomes U+FFFD.
 #[unsafe(no_mangle)]
 pub extern "C" fn tm_raw_value_utf8(
     alloc: Global,
@@ -229,8 +228,7 @@ fn line_out(alloc: Global, model: &Model, n: u64, out: &mut [u16], count: &mut u
     hand_out_of(answer, &units, out, count)
 }
 
-/// The content of the line of this number, and how many units it has. `Range` where there is no such line; `Short` where
-/// `out` has no room for all.
+/// Copies the content of a line. Sets `count` to its length in units. `Range` if there is no such line. `Short` if `out` is too short.
 #[unsafe(no_mangle)]
 pub extern "C" fn tm_raw_line(
     alloc: Global,
@@ -250,7 +248,7 @@ pub extern "C" fn tm_raw_line(
     status.number()
 }
 
-// As many units from the offset on as there is room for, one fewer where the last would be cut from the next.
+// Returns the span of at most `room` units from the offset on. It is one shorter if its end would not be a valid offset.
 fn fitting_span(model: &Model, offset: u64, room: u64) -> Span
     ensures { result ≡ fitting_span model.now.document offset room }
 {
@@ -282,9 +280,8 @@ fn read_out(alloc: Global, model: &Model, offset: u64, out: &mut [u16], count: &
     value_out(alloc, model, span, out, count)
 }
 
-/// As many units from the offset on as `out` has room for, and how many they are: one fewer where the last would be half of
-/// a pair of surrogates or, in a text of CR LF, of a line ending. `Range` where the offset is no place of the text, or `out` has
-/// room for fewer than two.
+/// Copies as many units from the offset on as fit into `out`, one fewer if that would split a surrogate pair or, in a CR LF document, a
+/// line ending. Sets `count` to their number. `Range` if the offset is invalid or `out` has room for less than 2 units.
 #[unsafe(no_mangle)]
 pub extern "C" fn tm_raw_read_into(
     alloc: Global,
@@ -304,7 +301,7 @@ pub extern "C" fn tm_raw_read_into(
     status.number()
 }
 
-// As much from the offset on as certainly has room in UTF-8. The offset is moved behind it.
+// Copies as much text in UTF-8 as is sure to fit, and moves the offset to its end.
 fn read_utf8_out(
     alloc: Global,
     model: &Model,
@@ -329,9 +326,8 @@ fn read_utf8_out(
     status
 }
 
-/// `tm_raw_read_into` in UTF-8: as many units from the offset on as certainly have room, of which each takes at most three bytes, how
-/// many bytes they have, and the offset behind them. `Range` where the offset is no place of the text, or `out` has room for fewer
-/// than six.
+/// Like `tm_raw_read_into`, in UTF-8. Copies at most a third as many units as `out` has bytes, since a unit takes at most 3. Sets `count`
+/// to the number of bytes and moves `offset` to their end. `Range` if the offset is invalid or `out` has room for less than 6 bytes.
 #[unsafe(no_mangle)]
 pub extern "C" fn tm_raw_read_into_utf8(
     alloc: Global,
@@ -360,8 +356,7 @@ fn line_utf8_out(alloc: Global, model: &Model, n: u64, out: &mut [u8], count: &m
     utf8_out(alloc, answer, &units, out, count)
 }
 
-/// The content of the line of this number in UTF-8, and how many bytes it has; a lone surrogate becomes U+FFFD. `Range`
-/// where there is no such line; `Short` where `out` has no room for all.
+/// Like `tm_raw_line`, in UTF-8; `count` is in bytes. A lone surrogate becomes U+FFFD.
 #[unsafe(no_mangle)]
 pub extern "C" fn tm_raw_line_utf8(
     alloc: Global,

@@ -1,4 +1,4 @@
-//! Texts in UTF-8, in and out.
+//! Converts texts from and to UTF-8.
 
 ghost use Rattle.std.specs.Prelude.{◌≡◌, [], List, ℕ, Result};
 ghost use Rattle.document_rules.specs.Refusals.{FlatRefusal};
@@ -12,7 +12,7 @@ use model_core::{ModelError, units_of, utf8_of};
 use std::alloc::Global;
 use std::str::from_utf8;
 
-/// The units of a text in UTF-8. Where it is not valid, `bad` becomes the offset of the first byte at fault.
+/// Converts a text from UTF-8 to units. If it is invalid, sets `bad` to the offset of the first invalid byte.
 pub(crate) fn units_in(alloc: Global, text: &[u8], bad: &mut u64) -> Result<Vec<u16>, Status>
     ensures units { GivesUnits text.now result }
     ensures fault { TellsFault text.now bad.old bad.new }
@@ -29,7 +29,7 @@ pub(crate) fn units_in(alloc: Global, text: &[u8], bad: &mut u64) -> Result<Vec<
     Ok(units)
 }
 
-/// `units_in`, for a call of C. The call ends where there are none.
+/// Like `units_in`; on an error, makes the caller return its status.
 macro_rules! taken_units {
     ($alloc:expr, $text:expr, $bad:expr) => {
         match crate::utf8::units_in($alloc, $text, $bad) {
@@ -41,7 +41,7 @@ macro_rules! taken_units {
 
 pub(crate) use taken_units;
 
-/// Hands the units out in UTF-8, where the call was not refused. A lone surrogate becomes U+FFFD.
+/// Copies the units in UTF-8 to `out` if the call succeeded. A lone surrogate becomes U+FFFD.
 pub(crate) fn utf8_out(
     alloc: Global,
     answer: Result<(), ModelError>,

@@ -15,24 +15,22 @@ use steps::Steps;
 use text_lengths::Position;
 
 impl Model {
-    /// The last parse of the text, be it of the text of now or of an earlier one. None before the first one since `new`
-    /// or `open_doc`.
+    /// Returns the last parse, of the present text or an earlier one; None before the first parse since `new` or `open_doc`.
     pub fn parsed(&self) -> Option<&Parsed>
         ensures { option_copied result ≡ told_parse self.now.parsed }
     {
         self.page.parsed()
     }
 
-    /// Whether the tree of the last parse is that of the text of now: no line was touched since.
+    /// Returns whether the last parse is of the present text.
     pub fn is_fresh(&self) -> bool
         ensures { result ≡ self.now.fresh }
     {
         self.page.is_fresh()
     }
 
-    /// Appends the brackets of the lines `from` to `to`, both counted from 1 and both included, in the order of the text.
-    /// `Range` where one of the lines is not there, or `from` is above `to`; after an error `out` is as it was, and so are
-    /// the tree of the last parse and the marks.
+    /// Appends the brackets of the lines `from` to `to`, both counted from 1 and both included, in the order of the text. `Range` if a line
+    /// is missing or `from` is above `to`. On an error `out`, the tree of the last parse and the marks are unchanged.
     pub fn brackets_in(
         &mut self,
         from: u64,
@@ -44,7 +42,7 @@ impl Model {
         self.brackets_in_counted(from, to, out, &mut Steps::new())
     }
 
-    /// `brackets_in`, which counts: each call that asks the tree of the last parse for a node or a bracket is a step.
+    /// Like `brackets_in`, and counts steps. A step is a call that asks the tree of the last parse for a node or a bracket.
     pub fn brackets_in_counted<L>(
         &mut self,
         from: u64,
@@ -63,16 +61,16 @@ impl Model {
         listed.map_err(|_| ModelError::Memory)
     }
 
-    /// Where the other bracket of a pair starts, and how many units it has, where one of the two starts at the position;
-    /// None where none does. `Range` where the position is invalid. It takes no memory where the tree of the last
-    /// parse is that of the text of now, and an error leaves tree and marks as they were.
+    /// Finds the bracket that matches the one at this position. Returns its position and its length in units; None if no bracket of a pair
+    /// starts there. `Range` if the position is invalid. Never `Memory` if the last parse is of the present text. On an error the tree and
+    /// the marks are unchanged.
     pub fn match_at(&mut self, p: Position) -> Result<Option<(Position, u64)>, ModelError>
         ensures { Asks (λ f. flat_match f p) result self.old self.new }
     {
         self.match_at_counted(p, &mut Steps::new())
     }
 
-    /// `match_at`, which counts as `brackets_in_counted` does.
+    /// Like `match_at`, and counts steps as `brackets_in_counted` does.
     pub fn match_at_counted<L>(
         &mut self,
         p: Position,
@@ -88,16 +86,15 @@ impl Model {
         Ok(told(self.page.tree().partner_of(place_of(p))))
     }
 
-    /// How many brackets are open after those that start before the position. `Range` where it is invalid. It
-    /// takes no memory where the tree of the last parse is that of the text of now, and an error leaves tree and marks as
-    /// they were.
+    /// Returns how many brackets are open after those that start before the position. `Range` if it is invalid. Never `Memory` if the last
+    /// parse is of the present text. On an error the tree and the marks are unchanged.
     pub fn level_at(&mut self, p: Position) -> Result<u64, ModelError>
         ensures { Asks (λ f. flat_level f p) result self.old self.new }
     {
         self.level_at_counted(p, &mut Steps::new())
     }
 
-    /// `level_at`, which counts as `brackets_in_counted` does.
+    /// Like `level_at`, and counts steps as `brackets_in_counted` does.
     pub fn level_at_counted<L>(
         &mut self,
         p: Position,

@@ -1,4 +1,4 @@
-//! The last change of a document, as edits that are carried out one after another.
+//! The last change of a document, as edits in sequence.
 
 ghost use Rattle.std.specs.Prelude.{◌≡◌, ◌<◌, ◌∷◌, [], Some, length, IfSome, MatchOption};
 ghost use Rattle.std.specs.Option.{ForNone};
@@ -13,7 +13,7 @@ use crate::walk::next_step;
 use edit_stack::EditStack;
 use model_page::{Change, ContentChange, StepEdits, Way};
 
-/// The edits of the last change that are left to tell, in the order in which they are carried out. Contracts see these.
+/// The remaining edits of the last change, in order. Contracts see them as a list.
 #[derive(Drop)]
 pub struct Changes<'m> {
     step: Option<StepEdits<'m>>,
@@ -30,7 +30,7 @@ impl<'m> std::marker::Model for Changes<'m> {
 }
 
 impl<'m> Changes<'m> {
-    /// The next one; None where all are told.
+    /// Returns the next edit; None after the last one.
     pub fn next(&mut self) -> Option<ContentChange<'m>>
         ensures told { MatchOption result (self.old ≡ [])
             (λ change. self.old ≡ told_op change ∷ self.new) }
@@ -41,8 +41,8 @@ impl<'m> Changes<'m> {
 }
 
 impl Model {
-    /// What the last change did, be it an edit, other line endings, an undo or a redo: edits that lead from the text before it to
-    /// that of now, one after another. Of other line endings these are the endings that differ. None in version 1.
+    /// Returns the edits of the last change: an edit, an undo, a redo or new line endings. Applied in order, they turn the text before it
+    /// into the present one. For new line endings they are the endings that differ. Version 1 has none.
     pub fn changes(&self) -> Changes<'_>
         ensures changes { result ≡ flat_changes self.now.document }
         ensures texts { IfSome self.now.document.last
@@ -57,7 +57,7 @@ impl Model {
     }
 }
 
-// The edits of the step that it was, or of the last change of a step that may go on.
+// Returns the edits of the last change; of a step that may still grow, only those of its last change.
 fn latest_edits(history: &EditStack<Change>, latest: Latest) -> StepEdits<'_>
     requires { 0 < length (latest_steps latest history.now.stack) }
     ensures { (now : FlatText) → result ≡ edits_of (last_of (Some latest) now history.now.stack) }

@@ -1,4 +1,4 @@
-//! Columns of a document's lines, as language servers count them.
+//! Columns in other units, as language servers count them.
 
 ghost use Rattle.document_rules.specs.Outcomes.{Gives};
 ghost use Rattle.document_rules.specs.Columns.{flat_column_in, flat_column_of};
@@ -9,8 +9,8 @@ use document_rules::ModelError;
 use text_lengths::Position;
 
 impl Model {
-    /// How many bytes of UTF-8, units of UTF-16 or code points of its line stand before the position, as the encoding says. A
-    /// surrogate that stands in no pair counts as U+FFFD. `Range` where the position is invalid.
+    /// Returns how many bytes of UTF-8, UTF-16 units or code points precede a position in its line. A lone surrogate counts as U+FFFD.
+    /// `Range` if the position is invalid.
     pub fn column_in(&self, encoding: Encoding, at: Position) -> Result<u64, ModelError>
         ensures { Gives result (flat_column_in self.now.document encoding at) }
     {
@@ -20,8 +20,8 @@ impl Model {
         column_in(encoding, &content, before).ok_or(ModelError::Range)
     }
 
-    /// The column, counted in units from 1, of the place in the line before which so many bytes, units or code points stand. `Range`
-    /// where there is no such line, or the place is inside a character or beyond the line's end.
+    /// Converts a count of bytes, UTF-16 units or code points from the start of a line into a column, in units from 1. `Range` if the line
+    /// is missing, or the place is inside a character or beyond the line's end.
     pub fn column_of(&self, encoding: Encoding, line: u64, before: u64) -> Result<u64, ModelError>
         ensures { Gives result (flat_column_of self.now.document encoding line before) }
     {

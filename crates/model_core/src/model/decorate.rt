@@ -16,10 +16,9 @@ use text_lengths::Span;
 use text_rules::is_bad_span;
 
 impl Model {
-    /// Takes decorations of an owner out and puts new ones in, all of it or none, and answers the first new id, or the
-    /// next free one where nothing is added. `Unknown` where a named one is not live, has another owner or is named
-    /// twice; else `Range` where a span is invalid or a mode is above 3; else `Limit` where too many would be
-    /// live, or an id would pass the greatest one.
+    /// Removes decorations of an owner and adds new ones, all or none. Returns the first new id, or the next free id if none is added.
+    /// `Unknown` if an id to be removed is not live, has another owner or is repeated; else `Range` if a span is invalid or a mode is above
+    /// 3; else `Limit` if too many would be live or an id would be too large.
     pub fn decorate(
         &mut self,
         owner: u64,
@@ -34,7 +33,7 @@ impl Model {
         self.page.decorate(owner, remove, add).map_err(refusal_of)
     }
 
-    /// The live decoration of this id. Its span lies in the text.
+    /// Returns the live decoration with this id. Its span is within the text.
     pub fn get_deco(&self, id: u64) -> Option<Deco>
         ensures deco { result ≡ flat_deco self.now.document id }
         ensures inside { IfSome result
@@ -43,8 +42,8 @@ impl Model {
         self.page.decorations().get(id)
     }
 
-    /// Appends the decorations that share a unit with the span, or touch it: all of them, or those of one owner. Their
-    /// spans lie in the text. `Range` where the span is invalid; after an error `out` is as it was.
+    /// Appends the decorations that overlap or touch the span: those of one owner, or all. Their spans are within the text. `Range` if the
+    /// span is invalid. On an error `out` is unchanged.
     pub fn decos_in(
         &self,
         span: Span,

@@ -66,7 +66,7 @@ impl Model {
     /// version and the kind of line ending are those that it was prepared on; for an edit the rule takes the batch as it stands, and its
     /// inverse is the one that was prepared; for other line endings the text is the one that was prepared, and the kind another; for
     /// an undo or redo there is a step. The tree of the last parse stays, and each line that
-    /// is touched is marked as new. A small text in many pieces may be written anew then, where there is memory for it.
+    /// is touched is marked as new. The text, or pieces of few units, may be written anew then, where there is memory for it.
     pub fn commit(&mut self, ready: Ready)
         requires can { CanCommit self.old ready }
         ensures document { Acts ready.action self.old.document self.new.document }
@@ -75,8 +75,9 @@ impl Model {
         ensures parse { HasActed ready.action self.old self.new }
     {
         self.act(ready);
-        // Where memory is short the text stays in its pieces.
+        // Where memory is short the text stays in its buffers.
         let _written = self.compact();
+        self.rewrite_crowded();
     }
 
     // Carries out what was prepared.

@@ -1,4 +1,4 @@
-//! The line endings of a document: another kind of them, prepared and set.
+//! Changes the line endings of a document.
 
 ghost use Rattle.std.specs.Prelude.{◌≡◌};
 ghost use Rattle.document_rules.specs.Outcomes.{Moves};
@@ -18,9 +18,9 @@ use text_lengths::raised;
 use unit_text::{Flat, Kind};
 
 impl Model {
-    /// Changes the line endings of the text to those of the kind, as the next version, and answers whether they were of another one.
-    /// `Limit` where the new text or the version would pass its limit. It is a step of undo of its own. Decorations keep line and
-    /// column; the brackets need no new parse, since no line has another content.
+    /// Changes all line endings to this kind. The version goes up by 1. Returns false if the document has this kind already. `Limit` if the
+    /// new text or the version would pass its limit. The change is its own step of undo. Decorations keep their lines and columns. The last
+    /// parse stays valid, since no line's content changes.
     pub fn set_eol(&mut self, kind: Kind) -> Result<bool, ModelError>
         ensures document { Moves result self.old.document self.new.document
             (flat_eol self.old.document kind) }
@@ -34,8 +34,8 @@ impl Model {
         Ok(true)
     }
 
-    /// Prepares to change the line endings to those of the kind, and makes room for it; None where they are of it. `Limit` where the
-    /// new text or the version would pass its limit. The document stays as it is.
+    /// Prepares to change all line endings to this kind, and reserves room for it; None if the document has this kind already. `Limit` if
+    /// the new text or the version would pass its limit. The document is unchanged.
     pub fn prepare_eol(&mut self, kind: Kind) -> Result<Option<Ready>, ModelError>
         ensures document { self.new.document ≡ self.old.document }
         ensures parse { KeepsParse self.old self.new }

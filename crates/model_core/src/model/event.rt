@@ -14,7 +14,7 @@ use model_page::{Change, Way, batch_along, batches_along};
 use std::alloc::{AllocError, Global};
 
 impl Model {
-    /// Whether there was a change, of which `last_event` would copy the batches: always but in version 1.
+    /// Returns whether there is a last change. False in version 1 only.
     pub fn has_last_event(&self) -> bool
         ensures { (result ≡ false) ↔ (self.now.document.version ≡ 1) }
     {
@@ -24,8 +24,8 @@ impl Model {
         }
     }
 
-    /// The last change: the version before it, and copies of the batches that were carried out, in their order. An undo has the
-    /// inverses, and other line endings are a batch that puts the whole text in. None exactly in version 1.
+    /// Returns the last change: the version before it, and copies of its batches in order. An undo has the inverse batches. New line
+    /// endings are one batch that replaces the whole text. None in version 1 only.
     pub fn last_event(&self) -> Result<Option<Event>, AllocError>
         ensures event { IfOk result (λ event. event ≡ flat_event self.now.document) }
         ensures none { IfOk result (λ event. IsNone event ↔ (self.now.document.version ≡ 1)) }
@@ -40,7 +40,7 @@ impl Model {
     }
 }
 
-// The batches of the step that it was, or the last one of a step that may go on.
+// Returns the batches of the last change; of a step that may still grow, only the last one.
 fn latest_batches(
     alloc: Global,
     history: &EditStack<Change>,

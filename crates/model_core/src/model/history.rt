@@ -19,8 +19,8 @@ use text_lengths::raised;
 use unit_text::Flat;
 
 impl Model {
-    /// Goes back to the text before the last step, as the next version, and answers whether there was one. `Limit`
-    /// where the version would pass its limit. All memory is taken before the first change.
+    /// Undoes the last step. The version goes up by 1. Returns false if there is no step. `Limit` if the version would pass its limit. All
+    /// memory is allocated before the first change.
     pub fn undo(&mut self) -> Result<bool, ModelError>
         ensures document { Moves result self.old.document self.new.document
             (flat_undo self.old.document) }
@@ -30,8 +30,8 @@ impl Model {
         self.go(Way::Back)
     }
 
-    /// Goes on to the text after the step that was undone last, as the next version, and answers whether there was one.
-    /// `Limit` where the version would pass its limit. All memory is taken before the first change.
+    /// Redoes the step that was undone last. The version goes up by 1. Returns false if there is no step. `Limit` if the version would pass
+    /// its limit. All memory is allocated before the first change.
     pub fn redo(&mut self) -> Result<bool, ModelError>
         ensures document { Moves result self.old.document self.new.document
             (flat_redo self.old.document) }
@@ -41,14 +41,14 @@ impl Model {
         self.go(Way::On)
     }
 
-    /// Whether there is a step to undo.
+    /// Returns whether there is a step to undo.
     pub fn can_undo(&self) -> bool
         ensures { result ≡ is_some (slice_get self.now.document.history.undo 0) }
     {
         self.can_go(Way::Back)
     }
 
-    /// Whether there is a step to make again.
+    /// Returns whether there is a step to redo.
     pub fn can_redo(&self) -> bool
         ensures { result ≡ is_some (slice_get self.now.document.history.redo 0) }
     {
@@ -62,7 +62,7 @@ impl Model {
         has_next(&self.history, way)
     }
 
-    // Goes one step along the way, as the next version, and answers whether there was one.
+    // Carries out the next undo or redo. The version goes up by 1. Returns false if there is no step.
     fn go(&mut self, way: Way) -> Result<bool, ModelError>
         ensures document { Moves result self.old.document self.new.document
             (flat_move way self.old.document) }
@@ -76,8 +76,8 @@ impl Model {
         Ok(true)
     }
 
-    /// Prepares to undo the last step, and makes room for it; None where there is no step. `Limit` where the version would
-    /// pass its limit. The document stays as it is.
+    /// Prepares to undo the last step, and reserves room for it; None if there is no step. `Limit` if the version would pass its limit. The
+    /// document is unchanged.
     pub fn prepare_undo(&mut self) -> Result<Option<Ready>, ModelError>
         ensures document { self.new.document ≡ self.old.document }
         ensures parse { KeepsParse self.old self.new }
@@ -86,8 +86,8 @@ impl Model {
         self.prepare_move(Way::Back)
     }
 
-    /// Prepares to make the step again that was undone last, and makes room for it; None where there is no step. `Limit`
-    /// where the version would pass its limit. The document stays as it is.
+    /// Prepares to redo the step that was undone last, and reserves room for it; None if there is no step. `Limit` if the version would
+    /// pass its limit. The document is unchanged.
     pub fn prepare_redo(&mut self) -> Result<Option<Ready>, ModelError>
         ensures document { self.new.document ≡ self.old.document }
         ensures parse { KeepsParse self.old self.new }
@@ -111,7 +111,7 @@ impl Model {
         Ok(Some(Ready::making(next, kind, Action::Move(way))))
     }
 
-    // Goes the step along the way that comes next, which makes this version.
+    // Carries out the next undo or redo, which makes this version.
     pub(super) fn follow(&mut self, way: Way, version: u64)
         requires next { version ≡ self.old.document.version + 1 }
         requires last { version ≤ greatest_version }
@@ -131,7 +131,7 @@ impl Model {
         self.latest = Some(Latest::along(way));
     }
 
-    /// The next edit begins a step of undo.
+    /// Makes the next edit begin a step of undo.
     pub fn stop(&mut self)
         ensures document { self.new.document ≡ flat_stop self.old.document }
         ensures paired_state { IsPairedState self.old.document → IsPairedState self.new.document }

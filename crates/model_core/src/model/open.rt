@@ -1,4 +1,4 @@
-//! Opening a document.
+//! Opens documents.
 
 ghost use Rattle.std.specs.Prelude.{◌≡◌, ◌≤◌, ◌∷◌, [], false, length, replicate, None, OnOk, OnErr, IfOk, IfErr};
 ghost use Rattle.unit_text.specs.Units.{IsPaired};
@@ -24,7 +24,7 @@ use std::alloc::Global;
 use unit_text::{Kind, is_of_kind, norm_of};
 
 impl Model {
-    /// An empty document, of version 1.
+    /// Makes an empty document with version 1.
     pub fn new(alloc: Global) -> Model
         ensures document { result.document ≡ new_document [] standard_scanner Mixed }
         ensures parsed { result.parsed ≡ None }
@@ -44,8 +44,8 @@ impl Model {
         }
     }
 
-    /// A document with this text and these brackets, of which comments and strings hide some. The text gets the line endings of
-    /// the kind. One that is then above the limit is refused with `Limit`, and with `Memory` one for which memory is short.
+    /// Makes a document with this text, these brackets, and the comments and strings in which brackets are ignored. All line endings are
+    /// changed to the kind. `Limit` if the text is then too long, `Memory` if there is no memory for it.
     pub fn opened(
         alloc: Global,
         text: &[u16],
@@ -70,7 +70,7 @@ impl Model {
         })
     }
 
-    /// Puts `opened` with this text, these brackets and this kind in place of the document, which stays where that is refused.
+    /// Replaces the document by a new one, as `opened` makes it. On an error the document is unchanged.
     pub fn open_doc(
         &mut self,
         text: &[u16],
@@ -89,7 +89,7 @@ impl Model {
     }
 }
 
-// A page of the text with the line endings of the kind. A text that has them already is not copied.
+// Makes a page of the text with all line endings of the kind. Does not copy a text that has them already.
 fn page_of(
     alloc: Global,
     text: &[u16],
@@ -109,7 +109,7 @@ fn page_of(
     new_page(alloc, &units, table, kind, hiding)
 }
 
-// A page of the text, which is of the kind.
+// Makes a page of a text of this kind.
 fn new_page(
     alloc: Global,
     units: &[u16],

@@ -1,4 +1,4 @@
-//! What a document is asked.
+//! Questions about a document.
 
 ghost use Rattle.std.specs.Prelude.{◌≡◌, ◌-◌, ◌≤◌, ◌++◌, length, OnOk, OnErr};
 ghost use Rattle.batch_rules.specs.Batches.{most_units};
@@ -18,14 +18,14 @@ use text_rules::is_bad_span;
 use unit_text::{Flat, Kind};
 
 impl Model {
-    /// How many units the text has.
+    /// Returns the length of the text in units.
     pub fn len(&self) -> u64
         ensures { result ≡ length self.now.document.units }
     {
         self.page.text().len()
     }
 
-    /// The kind of line ending that all those of the text are of.
+    /// Returns the kind of line endings. The whole text has it.
     pub fn kind(&self) -> Kind
         ensures kind { result ≡ self.now.document.kind }
         ensures endings { IsOfKind result self.now.document.units }
@@ -33,23 +33,22 @@ impl Model {
         self.page.text().kind()
     }
 
-    /// Whether the offset is a place of the text: none past its end, and none inside a pair of surrogates or, in a text of kind CR LF,
-    /// inside a line ending.
+    /// Returns whether the offset is valid: not beyond the text's end, and not inside a surrogate pair or, with kind CR LF, inside a line
+    /// ending.
     pub fn is_place(&self, offset: u64) -> bool
         ensures { result ≡ is_place_in self.now.document.kind self.now.document.units offset }
     {
         self.page.text().is_place(offset)
     }
 
-    /// How many lines the text has.
+    /// Returns the number of lines.
     pub fn line_count(&self) -> u64
         ensures { result ≡ flat_line_count self.now.document }
     {
         self.page.text().line_count()
     }
 
-    /// Appends the content of the line of this number, counted from 1. `Range` where there is no such line; after an
-    /// error `out` is as it was.
+    /// Appends the content of a line, counted from 1. `Range` if there is no such line. On an error `out` is unchanged.
     pub fn line(&self, n: u64, out: &mut Vec<u16>) -> Result<(), ModelError>
         ensures { Appends result out.old.items out.new.items (flat_line self.now.document n) }
     {
@@ -60,8 +59,8 @@ impl Model {
         text.line(n, out).map_err(|_| ModelError::Memory)
     }
 
-    /// Appends the columns, counted from 1, at which a cursor may stop in the line of this number. `Range` where there is
-    /// no such line; after an error `out` is as it was.
+    /// Appends the columns of a line at which a cursor may stop, in units. Lines and columns count from 1. `Range` if there is no such
+    /// line. On an error `out` is unchanged.
     pub fn stops(&self, n: u64, out: &mut Vec<u64>) -> Result<(), ModelError>
         ensures { Appends result out.old.items out.new.items (flat_stops self.now.document n) }
     {
@@ -70,7 +69,7 @@ impl Model {
         stops(self.alloc, content.as_slice(), out).map_err(|_| ModelError::Memory)
     }
 
-    /// Appends the units of the span. `Range` where it is invalid; after an error `out` is as it was.
+    /// Appends the units of the span. `Range` if the span is invalid. On an error `out` is unchanged.
     pub fn value(&self, span: Span, out: &mut Vec<u16>) -> Result<(), ModelError>
         ensures { Appends result out.old.items out.new.items (flat_value self.now.document span) }
     {
@@ -81,7 +80,7 @@ impl Model {
         text.value(span, out).map_err(|_| ModelError::Memory)
     }
 
-    /// Appends the whole text, which has no more units than a text may have. An error leaves `out` as it was.
+    /// Appends the whole text. It is never longer than a text may be. On an error `out` is unchanged.
     pub fn text(&self, out: &mut Vec<u16>) -> Result<(), AllocError>
         ensures text { OnOk result
             (out.new.items ≡ out.old.items ++ self.now.document.units) }
@@ -92,7 +91,7 @@ impl Model {
         text.copy(0, text.len(), out)
     }
 
-    /// As `offset_at`, and what it looks up is remembered for the edit that comes next.
+    /// Like `offset_at`. Remembers the pieces for the next edit.
     pub fn locate(&mut self, p: Position) -> Option<u64>
         ensures offset { result ≡ flat_offset self.old.document p }
         ensures same { self.new ≡ self.old }
@@ -100,7 +99,7 @@ impl Model {
         self.page.locate(p)
     }
 
-    /// The position of the offset, or None where it is no place of the text. Each node that a search visits is a step.
+    /// Converts an offset into a position; None if the offset is invalid. Each node that a search visits is a step.
     pub fn position_at<L>(&self, offset: u64, steps: &mut Steps<L>) -> Option<Position>
         ensures position { result ≡ flat_position self.now.document offset }
         ensures cost { WithinLookUps 3 self.now.pieces (steps.new - steps.old) }
@@ -108,7 +107,7 @@ impl Model {
         self.page.text().position_at(offset, steps)
     }
 
-    /// The offset of the position, or None where it is invalid. Each node that a search visits is a step.
+    /// Converts a position into an offset; None if the position is invalid. Each node that a search visits is a step.
     pub fn offset_at<L>(&self, p: Position, steps: &mut Steps<L>) -> Option<u64>
         ensures offset { result ≡ flat_offset self.now.document p }
         ensures cost { WithinLookUps 4 self.now.pieces (steps.new - steps.old) }
@@ -116,7 +115,7 @@ impl Model {
         self.page.text().offset_at(p, steps)
     }
 
-    /// The version, and the version at which the text was last as it is now.
+    /// Returns the version, and the version at which the text was last the same as now.
     pub fn versions(&self) -> (u64, u64)
         ensures version { result.0 ≡ self.now.document.version }
         ensures alternative { result.1 ≡ self.now.document.alternative }

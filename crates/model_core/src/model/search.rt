@@ -1,4 +1,4 @@
-//! Where a text stands in the document, and a replace of all of it.
+//! Finds a text in the document, and replaces all occurrences.
 
 ghost use Rattle.std.specs.Prelude.{◌≡◌, ◌+◌, ◌*◌, ◌++◌, ◌<◌, ◌≤◌, Ok, Err, true, length, IfOk, IfErr, OnOk, OnErr};
 ghost use Rattle.unit_text.specs.Units.{IsPaired};
@@ -21,9 +21,8 @@ use text_rules::{MOST_TEXT_UNITS, Op};
 use unit_text::{Flat, Units};
 
 impl Model {
-    /// Appends the spans of the text at which these units stand, from left to right, none overlapping the one before. Unit stands for
-    /// unit, and both ends of a span are places of the text. After an error `out` is as it was. It takes memory for a number for each of
-    /// the units beside the spans.
+    /// Appends the spans at which the sought units occur, from left to right and without overlaps. The comparison is literal. Both ends of
+    /// a span are valid offsets. On an error `out` is unchanged. Allocates the spans and one number for each sought unit.
     pub fn find(&self, sought: &[u16], out: &mut Vec<Span>) -> Result<(), AllocError>
         requires some { 0 < length sought.now }
         ensures ok { OnOk result (out.new.items
@@ -35,7 +34,7 @@ impl Model {
         self.find_counted(sought, out, &mut Steps::new())
     }
 
-    /// `find`, which counts the units that it looks at, of the text and of those that are sought: each look is a step.
+    /// Like `find`, and counts steps. A step is a look at a unit, of the text or of the sought ones.
     pub fn find_counted<L>(
         &self,
         sought: &[u16],
@@ -55,8 +54,8 @@ impl Model {
         find_in(text.runs_from(0), text.kind(), sought, out, looks)
     }
 
-    /// Puts a text in the place of each span that `find` finds, at once, as the next version, and answers whether there was one.
-    /// `Limit` where the new text or the version would pass its limit. It is a step of undo of its own, and forces no decoration.
+    /// Replaces all occurrences that `find` finds. The version goes up by 1. Returns false if there are none. `Limit` if the new text or
+    /// the version would pass its limit. The change is its own step of undo. It does not force decorations.
     pub fn replace_all(&mut self, sought: &[u16], with: &[u16]) -> Result<bool, ModelError>
         requires some { 0 < length sought.now }
         ensures document { Moves result self.old.document self.new.document
@@ -76,8 +75,8 @@ impl Model {
         Ok(true)
     }
 
-    /// Prepares to put a text in the place of each span that `find` finds, and makes room for it; None where there is no span.
-    /// `Limit` where the new text or the version would pass its limit. The document stays as it is.
+    /// Prepares to replace all occurrences that `find` finds, and reserves room for it; None if there are none. `Limit` if the new text or
+    /// the version would pass its limit. The document is unchanged.
     pub fn prepare_replace_all(
         &mut self,
         sought: &[u16],
@@ -100,7 +99,7 @@ impl Model {
         Ok(Some(self.prepare(ops)?))
     }
 
-    // The edits that put the text in the place of each span that `find` finds.
+    // Returns the edits that replace all occurrences.
     fn replacing(&self, sought: &[u16], with: &[u16]) -> Result<Vec<Op>, AllocError>
         requires some { 0 < length sought.now }
         ensures { IfOk result (λ ops. ops.items
@@ -117,14 +116,14 @@ impl Model {
         )
     }
 
-    // Whether the text would be too long with the new one in each place. It is found out before there is a copy of that for each.
+    // Returns true only if the replacement would make the text too long. Finds this out before the new text is copied for each occurrence.
     fn outgrows(&self, sought: &[u16], with: &[u16]) -> Result<bool, AllocError>
         requires some { 0 < length sought.now }
         ensures { result ≡ Ok true
             → flat_replace_all self.now.document sought.now with.now ≡ Err limit }
     {
         let text = self.page.text();
-        // No more than each unit is replaced, and each new one becomes two.
+        // At most every unit is replaced, and line endings at most double the new text.
         let most_added = text
             .len()
             .saturating_mul(with.len() as u64)

@@ -11,8 +11,8 @@ use crate::model::Model;
 use document_rules::ModelError;
 
 impl Model {
-    /// Keeps the text of now, to be read from its front, and answers its id. No unit is copied, and edits leave what is
-    /// kept. `Limit` where 1,000 are open, or where the id would pass 2^63 - 1.
+    /// Opens a snapshot of the present text, to be read from its start, and returns its id. Copies no units. Later edits do not change it.
+    /// `Limit` if 1,000 are open or the id would be above 2^63 - 1.
     pub fn snapshot(&mut self) -> Result<u64, ModelError>
         ensures document { ChangesWith self.old.document.shelf.next_id result
             self.old.document self.new.document (flat_snapshot self.old.document) }
@@ -27,9 +27,9 @@ impl Model {
         self.shelf.take(spans).map_err(shelf_error_of)
     }
 
-    /// Reads a snapshot: appends the first `count` units of what is left of it, or all where fewer are left; one fewer where the
-    /// last one would be a high surrogate with its low one behind it. They are left until `skip` passes them. `Unknown`
-    /// where no snapshot of this id is open; else `Range` where the count is below 2. After an error `out` is as it was.
+    /// Appends the next `count` units of a snapshot, or all that are left if there are fewer; one fewer if that would split a surrogate
+    /// pair. Does not move on: `skip` does. `Unknown` if no snapshot with this id is open; else `Range` if `count` is below 2. On an error
+    /// `out` is unchanged.
     pub fn peek(&self, id: u64, count: u64, out: &mut Vec<u16>) -> Result<(), ModelError>
         ensures { Appends result out.old.items out.new.items
             (flat_peek_of self.now.document id count) }
@@ -40,8 +40,7 @@ impl Model {
             .map_err(shelf_error_of)
     }
 
-    /// Goes on in a snapshot: the first `n` units of what is left of it were read. Nothing changes where no snapshot of this id is
-    /// open. It takes no memory.
+    /// Moves on in a snapshot by its next `n` units. Does nothing if no snapshot with this id is open. Allocates nothing.
     pub fn skip(&mut self, id: u64, n: u64)
         ensures document { self.new.document ≡ flat_skipped self.old.document id n }
         ensures paired_state { EndsBesidePairs self.old.document id n
@@ -51,8 +50,7 @@ impl Model {
         self.shelf.skip(id, n);
     }
 
-    /// Closes a snapshot: it is no longer open, and its id is not used again. `Unknown` where no snapshot of this id is open. It
-    /// takes no memory.
+    /// Closes a snapshot. Its id is not used again. `Unknown` if no snapshot with this id is open. Never fails with `Memory`.
     pub fn close(&mut self, id: u64) -> Result<(), ModelError>
         ensures document { Changes result self.old.document self.new.document
             (flat_close_of self.old.document id) }

@@ -2,18 +2,15 @@
 ghost use Rattle.std.specs.Prelude.{◌≡◌, ◌+◌, ◌<◌, ◌∷◌};
 ghost use Rattle.rb_rules.specs.Rewriting.{rewritten_all, onward_all};
 ghost use Rattle.rb_rules.specs.Woven.{sum_of, Valued};
-ghost use Rattle.rb_arena.specs.RbTree.{IsItem, PlaceAfter, HasInstead, HasPut, HasAfter, HasInsteadAndAfter, LeavesOut};
-ghost use Rattle.rb_arena.specs.RbTree.{SumsWith, SumsPut, SumsTo, SumsWithAndTo};
+ghost use Rattle.rb_arena.specs.RbTree.{IsItem, PlaceAfter, HasInstead, HasPut, HasAfter, LeavesOut};
+ghost use Rattle.rb_arena.specs.RbTree.{SumsWith, SumsPut, SumsTo};
 ghost use Rattle.rb_arena.specs.RbTree.{CanMoveAfter, SumsMoved, HasMoved};
-ghost use Rattle.rb_arena.specs.Pairs.{HasNext, SumsMerged, HasMerged};
 
-use crate::climb::{LONGEST, renew_over};
-use crate::insert::{hang_new, insert_at, leaf_at};
+use crate::climb::{LONGEST, set_item};
+use crate::insert::insert_at;
 use crate::leave::{item_for, leave};
-use crate::merge::merge;
 use crate::rewrite::rewrite_below;
 use crate::shift::{reach_for, shift_from};
-use crate::sums::replace_item;
 use crate::tree::RbTree;
 use crate::walk::place_after;
 use raw_arena::NodeId;
@@ -31,8 +28,7 @@ impl<W: Weave> RbTree<W> {
         ensures spare { self.new.spare ≡ self.old.spare }
     {
         let own = item_for::<W>(&self.links, id, item);
-        replace_item::<W>(&mut self.links, id, own);
-        renew_over::<W>(&mut self.links, Some(id), id);
+        set_item::<W>(&mut self.links, id, own);
     }
 
     /// Puts an item right after that one, or before all others.
@@ -63,27 +59,6 @@ impl<W: Weave> RbTree<W> {
         self.put_after(Some(id), item)
     }
 
-    /// Puts another item in the place of that one, under its name, and a new item right after it. The sums are renewed in one walk up,
-    /// which ends at the node of that name where the two have the sum that it had.
-    #[tactic(auto, using(crate::proofs::Seeing::setting_and_inserting))]
-    pub fn set_and_insert_after(&mut self, id: NodeId, own: W::Item, item: W::Item) -> NodeId
-        requires room { 0 < self.old.spare }
-        requires named { IsItem self.old.items id }
-        requires own { W.is_item own }
-        requires value { W.is_item item }
-        requires sum { SumsWithAndTo W.weaving W.is_value self.old.items id own item }
-        ensures items { HasInsteadAndAfter self.old.items self.new.items id own (result, item) }
-        ensures loose { self.new.loose ≡ self.old.loose }
-        ensures spare { self.new.spare + 1 ≡ self.old.spare }
-    {
-        let at = place_after(&self.links, Some(id));
-        // The leaf is made while all sums are right.
-        let own = item_for::<W>(&self.links, id, own);
-        let leaf = leaf_at::<W>(&self.links, &at, item);
-        replace_item::<W>(&mut self.links, id, own);
-        hang_new::<W>(&mut self.links, at, leaf, Some(id))
-    }
-
     /// Puts an item before all others.
     pub fn insert_first(&mut self, item: W::Item) -> NodeId
         requires room { 0 < self.old.spare }
@@ -105,20 +80,6 @@ impl<W: Weave> RbTree<W> {
         ensures spare { self.new.spare ≡ self.old.spare + 1 }
     {
         leave::<W>(&mut self.links, id);
-    }
-
-    /// Puts one item in the place of that one and of the one right behind it, and tells under which of their names it stands. Where the
-    /// sum of the two stays, the walk up ends at the higher of their nodes.
-    #[tactic(auto, using(crate::proofs::Seeing::spare_seen))]
-    pub fn merge_next(&mut self, id: NodeId, item: W::Item) -> NodeId
-        requires pair { HasNext self.old.items id }
-        requires value { W.is_item item }
-        requires sum { SumsMerged W.weaving W.is_value self.old.items id item }
-        ensures items { HasMerged self.old.items self.new.items id (result, item) }
-        ensures loose { self.new.loose ≡ self.old.loose }
-        ensures spare { self.new.spare ≡ self.old.spare + 1 }
-    {
-        merge::<W>(&mut self.links, id, item)
     }
 
     /// Moves each item after that one, or every item where none is named.

@@ -1,4 +1,4 @@
-//! A box by its address.
+//! A box, by its address.
 
 ghost use Rattle.std.specs.Prelude.{◌≡◌};
 ghost use Rattle.std.specs.Box.Ownership.{box_owns};
@@ -6,7 +6,7 @@ ghost use Rattle.std.specs.Box.Ownership.{box_owns};
 use std::alloc::Allocator;
 use std::marker::Model;
 
-/// A value on the heap that nothing frees.
+/// A value on the heap that is never freed by itself.
 pub(crate) struct RawBox<T, A: Allocator> {
     pub(crate) at: *mut T,
     pub(crate) alloc: A,

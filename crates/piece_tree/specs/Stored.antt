@@ -1,0 +1,53 @@
+-- How runs are stored: the tree keeps where the pieces of each lie, and their sums.
+use Rattle.std.specs.Prelude.{ℕ, ◌≡◌, ◌<◌, ◌≤◌, ◌^◌, ◌==◌, Some, None, List, [], length, map, min, count_by}
+use Rattle.std.specs.List.{All}
+use Rattle.raw_arena.specs.Arena.{Nodes, node}
+use Rattle.rb_arena.specs.RbTree.{Listed}
+use Rattle.rb_arena.specs.Walking.{Walked}
+use Rattle.piece_tree.specs.declared.piece.Piece.{Piece}
+use Rattle.piece_tree.specs.declared.run.Run.{Run}
+use Rattle.piece_tree.specs.declared.weave.StoredRun.{StoredRun}
+use Rattle.piece_tree.specs.Pieces.{unit_count, sum_of}
+use Rattle.piece_tree.specs.Searches.{few_breaks}
+use Rattle.piece_tree.specs.Runs.{Runs, WalkedRuns, IsRun, listed_in, pieces_in}
+
+-- the pieces that lie there
+abbrev pub pieces_at : Nodes Run → ℕ → List Piece
+pieces_at stored at = elim (node stored at) [ None ↦ [] | Some run ↦ listed_in run ]
+
+abbrev pub stored_in : Nodes Run → List (ℕ × StoredRun) → List (ℕ × List Piece)
+stored_in stored items = map (λ e. (e.0, pieces_at stored e.1.at)) items
+
+-- there is room for as many more as both the tree and the arena have room for
+abbrev pub runs_of : Listed StoredRun → Nodes Run → Runs
+runs_of tree stored = record { runs = stored_in stored tree.items; spare = min tree.spare stored.spare }
+
+abbrev pub walked_of : Walked StoredRun → Nodes Run → WalkedRuns
+walked_of walk stored = record { left = stored_in stored walk.left; due = walk.due }
+
+-- how many of the runs lie at that place
+abbrev pub times_at : ℕ → List (ℕ × StoredRun) → ℕ
+times_at at items = count_by (λ e. at == e.1.at) items
+
+-- no two of the runs lie at one place
+abbrev pub LieApart : List (ℕ × StoredRun) → Type 0
+LieApart items = (at : ℕ) → times_at at items ≤ 1
+
+-- the pieces of a run lie there, and are neither none nor too many; the tree keeps their sum
+pub record IsStored (stored : Nodes Run) (item : ℕ × StoredRun) : Type 0 where
+  pub run : Run
+  pub there : node stored item.1.at ≡ Some run
+  pub few : IsRun run
+  pub sum : item.1.sum ≡ sum_of (listed_in run)
+  pub some : 0 < length (listed_in run)
+  pub counted : All few_breaks (listed_in run)
+
+-- each run is stored, apart from the others, and the text is not too long
+pub record AreStored (tree : Listed StoredRun) (stored : Nodes Run) : Type 0 where
+  pub each : All (IsStored stored) tree.items
+  pub apart : LieApart tree.items
+  pub small : unit_count (pieces_in (stored_in stored tree.items)) < 2 ^ 62
+
+-- so is each run that a walk has not told yet
+abbrev pub WalksStored : Walked StoredRun → Nodes Run → Type 0
+WalksStored walk stored = All (IsStored stored) walk.left
