@@ -5,7 +5,7 @@
  * edited each < SCRIPT      what each call of the first part takes
  *
  * A script has lines that make the document, which are answered as lines, and then parts. A part begins with a line
- * `# COUNT FROM TO`, and has so many lines, which are read into calls before the first is made. The flat document makes those
+ * `# COUNT FROM TO`, and has COUNT lines, which are read into calls before the first is made. The flat document makes those
  * from FROM up to TO alone, on the library's text of that moment, so that it need not make the others.
  *
  * `trace` writes a line for each part: nanoseconds of processor time that the library took for all of its calls, and the flat

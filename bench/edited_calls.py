@@ -42,7 +42,7 @@ def told(program: Path, word: str, setup: Lines, parts: list[tuple[str, Lines]])
 
 
 def traced_once(program: Path, setup: Lines, parts: list[Part], rounds: int) -> tuple[list[Took], int]:
-    """What each part took, of which the flat document gets at most so many rounds; and how long all took."""
+    """What each part took, of which the flat document gets at most a given number of rounds; and how long all took."""
     numbers = told(program, "trace", setup, [(part.head(rounds), part.lines) for part in parts])
     took = []
     for part, (ours, flat) in zip(parts, numbers, strict=True):
@@ -70,7 +70,7 @@ def grown(program: Path, setup: Lines, part: Part) -> tuple[float, float]:
 
 
 def each(program: Path, setup: Lines, lines: Lines, runs: int) -> list[int]:
-    """The least nanoseconds that each of the lines took as a call in so many runs."""
+    """The least nanoseconds that each of the lines took as a call, over several runs."""
     all_runs = [told(program, "each", setup, [(f"# {len(lines)} 0 0", lines)]) for _ in range(runs)]
     return [min(numbers)[0] for numbers in zip(*all_runs, strict=True)]
 

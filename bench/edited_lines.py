@@ -74,7 +74,7 @@ def of_flat(by: ByLines, case: Case, rounds: int) -> float | None:
 
 
 def lines_of(by: ByLines, units: int, parts: list[Part], rounds: int, enough: float) -> list[tuple[float, float | None]]:
-    """What a round of each part takes the program, and the flat document, which gets at most so many rounds."""
+    """What a round of each part takes the program, and the flat document, which gets at most a given number of rounds."""
     ours, flat = of_ours(by, plain(units), parts, enough), []
     for number, part in enumerate(parts):
         case = some_of(parts, number, units, rounds) if part.what else None

@@ -20,7 +20,7 @@ Kind = Callable[[], Both]
 
 
 class Part(NamedTuple):
-    """Lines of a trace, so many in each round, and as many that are refused. They need as many parts before them as they follow;
+    """Lines of a trace, a fixed number in each round, and as many that are refused. They need as many parts before them as they follow;
     `before` is the text that the first of all these meets."""
 
     what: str  # nothing where it is not shown
@@ -31,16 +31,16 @@ class Part(NamedTuple):
     follows: int = 0
 
     def first(self, rounds: int) -> tuple[Lines, Lines]:
-        """The lines of the first rounds, at most so many, and those that are refused."""
+        """The lines of the first rounds, at most a given number, and those that are refused."""
         count = self.count(rounds)
         return self.lines[:count], self.refused[:count]
 
     def count(self, rounds: int) -> int:
-        """How many lines there are in so many rounds."""
+        """How many lines a number of rounds has."""
         return min(rounds, self.rounds) * len(self.lines) // self.rounds
 
     def head(self, rounds: int) -> str:
-        """The line before the part, as edited.c reads it, where the flat document gets at most so many rounds: the last ones,
+        """The line before the part, as edited.c reads it, where the flat document gets at most a given number of rounds: the last ones,
         but the first ones of an undo, which are of the edits that it got last."""
         all_of_them, some = len(self.lines), self.count(rounds) if self.what else 0
         start = 0 if self.follows == 1 else all_of_them - some
@@ -75,7 +75,7 @@ class Text:
         return len(self.chunks) - 1, len(self.chunks[-1])
 
     def replace(self, start: int, length: int, new: str) -> int:
-        """Puts units in the place of so many of one chunk, and gives where these began: before `start`, where the chunk ends."""
+        """Replaces units of one chunk, and gives where these began: before `start`, where the chunk ends."""
         number, within = self.find(start)
         chunk = self.chunks[number]
         back = max(0, within + length - len(chunk))
@@ -178,7 +178,7 @@ class Trace:
 
 
 def edited_parts(units: int, tenths: int) -> list[Part]:
-    """The parts of a text that is edited, asked, typed into, and undone. Of each so many tenths."""
+    """The parts of a text that is edited, asked, typed into, and undone. Of each a number of tenths."""
     trace, many, some = Trace(units), 10_000 * tenths, 2_000 * tenths
     return [
         trace.part("edit", many, trace.edit),
