@@ -5,7 +5,7 @@ PAGE = "CONTRIBUTING.md"
 CRATE = "crates/column_encodings"
 # the part's name, the language, the file, how the first line begins, and the line before which it ends
 QUOTES = [
-    ("definition", "text", f"{CRATE}/specs/Columns.antt", "-- how many bytes, units or code points the units take", ""),
+    ("definition", "text", f"{CRATE}/specs/Columns.antt", "-- the number of bytes, units or code points of the units", ""),
     ("function", "rust", f"{CRATE}/src/lib.rt", "fn length_in(", ""),
     ("invariants", "text", f"{CRATE}/proofs/length_in/Invariants.antt", "abbrev pub invariant-loop-rest", "use "),
     ("answer", "text", f"{CRATE}/proofs/length_in/Answers.antt", "pub overflow_add-length :", ""),

@@ -1,4 +1,4 @@
--- Which answer a batch gets: a bad span is found first, then an overlap, then a text that would be too long.
+-- The result of a batch: an invalid span is reported first, then an overlap, then a text that would be too long.
 use Rattle.std.proofs.Common.{◌≡◌, ◌<◌, ◌≤◌, cond, true, false, List, [], ◌∷◌, ℕ, length, map, Ok, Err, refl, ap, sym, ◌∙◌}
 use Rattle.std.proofs.lemmas.Bool.{lt-ltb, le-ltb}
 use Rattle.unit_text.specs.declared.kind.Kind.{Kind}
@@ -23,7 +23,7 @@ pub accepted_in_order : (kind : Kind) (x : List ℕ) (ops : List Op) → has_bad
     → checked_ops kind x ops ≡ Ok (sorted_ops ops)
 accepted_in_order kind x ops good apart fits = rw (good, apart, le-ltb most_units (length (applied x ops)) fits) refl
 
--- it makes no difference to the rule in which order the ops come
+-- the order of the ops makes no difference to the rule
 pub checked_ops-sorted_ops : (kind : Kind) (x : List ℕ) (ops : List Op) → checked_ops kind x (sorted_ops ops) ≡ checked_ops kind x ops
 checked_ops-sorted_ops kind x ops = rw (has_bad_span-sorted_ops kind x ops, sorted_ops_again ops) refl
 
@@ -40,7 +40,7 @@ sorted_ops-op_in kind [] = refl
 sorted_ops-op_in kind (op ∷ ops) =
     put_in_order-op_in kind op (sorted_ops ops) ∙ ap (put_in_order (op_in kind op)) (sorted_ops-op_in kind ops)
 
--- the order is the same whatever the texts are
+-- the order does not depend on the texts of the ops
 pub sorted_ops-ops_in : (kind : Kind) (ops : List Op) → ops_in kind (sorted_ops ops) ≡ sorted_ops (ops_in kind ops)
 sorted_ops-ops_in Mixed ops = refl
 sorted_ops-ops_in Lf ops = sorted_ops-op_in Lf ops
@@ -50,12 +50,12 @@ pub checked_batch-sorted_ops : (kind : Kind) (x : List ℕ) (ops : List Op) → 
 checked_batch-sorted_ops kind x ops =
     ap (checked_ops kind x) (sorted_ops-ops_in kind ops) ∙ checked_ops-sorted_ops kind x (ops_in kind ops)
 
--- a batch of which no text changes is as it was
+-- replacing line endings by those of Mixed leaves a batch unchanged
 map-op_in-mixed : (ops : List Op) → map (op_in Mixed) ops ≡ ops
 map-op_in-mixed [] = refl
 map-op_in-mixed (op ∷ ops) = ap (λ l. op ∷ l) (map-op_in-mixed ops)
 
--- each op gets its text by itself
+-- the text of each op is normalized separately
 pub ops_in-map : (kind : Kind) (ops : List Op) → ops_in kind ops ≡ map (op_in kind) ops
 ops_in-map Mixed ops = sym (map-op_in-mixed ops)
 ops_in-map Lf ops = refl

@@ -1,4 +1,4 @@
--- A batch carried out op by op, from the last to the first.
+-- A batch applied op by op, from the last to the first.
 use Rattle.std.proofs.Common.{◌≡◌, ℕ, zero, suc, ◌+◌, ◌-◌, ◌<◌, ◌≤◌, List, [], ◌∷◌, ◌++◌, length, take, drop, get_or, refl, ap, sym, ◌∙◌, append_assoc, take-append-drop, length-append, length-drop, arith}
 use Rattle.std.proofs.lemmas.List.{length-take-le, take-take, take-append-le, drop_at}
 use Rattle.std.proofs.lemmas.List.Sums.{sum_by-cons}
@@ -23,7 +23,7 @@ backwards_from at x (op ∷ ops) standing =
     rw (before, front, back, cut)
     (ap (λ (z : List ℕ). z ++ rest) (append_assoc (take at x) (take (s - at) (drop at x)) op.text) ∙ append_assoc (take at x) (take (s - at) (drop at x) ++ op.text) rest)
 
--- one by one from the last to the first is the one pass
+-- applying the ops one by one from the last to the first equals the single pass
 pub backwards_is_one_pass : (x : List ℕ) (ops : List Op) → StandFrom 0 x ops → edited_backwards x ops ≡ applied_from 0 x ops
 backwards_is_one_pass x ops standing = backwards_from 0 x ops standing
 
@@ -37,15 +37,15 @@ length_backwards at x ops standing =
     ap length (backwards_from at x ops standing)
     ∙ omega (arith, length-append (take at x) (applied_from at x ops), length-take-le at x (standing_within at x ops standing))
 
--- on the way the text never has more units than it had and the new texts have
+-- at each step the length of the text is at most that of the old text plus the new texts
 pub backwards_few : (at : ℕ) (x : List ℕ) (ops : List Op) (done : ℕ) → StandFrom at x ops → length (edited_backwards x (drop done ops)) ≤ length x + text_units ops
 backwards_few at x ops zero standing = omega (arith, length_backwards at x ops standing, length_most at x ops standing)
 backwards_few at x [] (suc done) standing = omega arith
 backwards_few at x (op ∷ ops) (suc done) standing =
     omega (arith, sum_by-cons {X = Op} (λ o. length o.text) op ops, backwards_few op.span.end x ops done standing.2)
 
--- The op whose turn it is, when the ops behind it are carried out: its span lies within the text of the moment, and it
--- leaves the text of the next one.
+-- The step of one op after the later ops are applied: its span lies within the text `now`, and its result is the text
+-- `next`.
 pub record IsStep (x : List ℕ) (op : Op) (now next : List ℕ) : Type 0 where
   pub ordered : op.span.start ≤ op.span.end
   pub within : op.span.end ≤ length now

@@ -1,4 +1,4 @@
--- The inverse of a batch gives the text back.
+-- The inverse of a batch restores the text.
 use Rattle.std.proofs.Common.{◌≡◌, ℕ, suc, ◌+◌, ◌-◌, false, List, [], ◌∷◌, ◌++◌, length, take, drop, refl, ap, sym, ◌∙◌, append_assoc, length-append, arith}
 use Rattle.std.proofs.lemmas.List.{take-append-drop, take_at, drop_at, drop-drop}
 use Rattle.unit_text.specs.declared.kind.Kind.{Kind}
@@ -7,7 +7,7 @@ use Rattle.batch_rules.specs.Batches.{sorted_ops, has_bad_span, overlap, applied
 use Rattle.batch_rules.proofs.Order.{sorted_ops_standing}
 use Rattle.batch_rules.proofs.Standing.{sorted_ops_stand, length-kept, length-applied_from}
 
--- the inverse stands in the text after the batch
+-- the spans of the inverse are ordered within the text after the batch
 pub inverse_stands : (at now : ℕ) (x y : List ℕ) (ops : List Op) → StandFrom at x ops → now + length (applied_from at x ops) ≡ length y
     → StandFrom now y (inverse_from at now x ops)
 inverse_stands at now x y [] standing e = omega (arith, standing)
@@ -15,7 +15,7 @@ inverse_stands at now x y (op ∷ ops) standing e =
     let later : ℕ = now + (op.span.start - at) + length op.text in
     (omega arith, omega arith, inverse_stands op.span.end later x y ops standing.2 (omega (arith, e, length-applied_from at x op ops standing)))
 
--- a list in three parts, cut between them
+-- a list of three parts can be cut between them
 pub middle_cut : (k n m : ℕ) (a b c y : List ℕ) → length a ≡ k → length b ≡ n → m ≡ k + n → y ≡ a ++ b ++ c → (take k y ≡ a) × (drop m y ≡ c)
 middle_cut k n m a b c y la lb e same =
     let whole : y ≡ a ++ (b ++ c) = same ∙ append_assoc a b c in (
@@ -23,7 +23,7 @@ middle_cut k n m a b c y la lb e same =
       ap (drop m) same ∙ drop_at (a ++ b) c m (omega (arith, length-append a b)),
     )
 
--- `now` in the new text is the place `at` of the old one
+-- offset `now` of the new text corresponds to offset `at` of the old one
 pub inverse_applied : (at now : ℕ) (x y : List ℕ) (ops : List Op) → StandFrom at x ops → drop now y ≡ applied_from at x ops
     → applied_from now y (inverse_from at now x ops) ≡ drop at x
 inverse_applied at now x y [] standing e = e
@@ -42,12 +42,12 @@ inverse_applied at now x y (op ∷ ops) standing e =
     ap (λ (z : List ℕ). kept ++ z) (ap (λ (n : ℕ). drop n x) (omega (arith, standing.0)) ∙ sym (drop-drop k at x)) ∙ take-append-drop k (drop at x) in
     rw (first, rest) (append_assoc kept _ _ ∙ ap (λ (z : List ℕ). kept ++ z) middle ∙ all)
 
--- the inverse has an op for each op
+-- the inverse has as many ops as the batch
 pub length-inverse_from : (at now : ℕ) (x : List ℕ) (ops : List Op) → length (inverse_from at now x ops) ≡ length ops
 length-inverse_from at now x [] = refl
 length-inverse_from at now x (op ∷ ops) = ap suc (length-inverse_from op.span.end (now + (op.span.start - at) + length op.text) x ops)
 
--- to apply a batch that stands in the text and then its inverse gives the text back
+-- applying an ordered batch and then its inverse restores the text
 pub inverse_gives_back : (x : List ℕ) (ops : List Op) → StandFrom 0 x ops → applied_from 0 (applied_from 0 x ops) (inverse_from 0 0 x ops) ≡ x
 inverse_gives_back x ops standing = inverse_applied 0 0 x (applied_from 0 x ops) ops standing refl
 
@@ -63,7 +63,7 @@ inverse_takes_back x ops standing =
     ap (λ l. applied (applied_from 0 x l) (inverse_from 0 0 x ops)) (sorted_ops_standing 0 x ops standing)
     ∙ ap (applied_from 0 (applied_from 0 x ops)) (inverse_in_order x ops standing) ∙ inverse_gives_back x ops standing
 
--- for any batch without a bad span and without an overlap
+-- the same for any batch without an invalid span and without an overlap
 pub inverse_of_gives_back : (kind : Kind) (x : List ℕ) (ops : List Op) → has_bad_span kind x ops ≡ false → overlap (sorted_ops ops) ≡ false
     → applied (applied x ops) (inverse_of x ops) ≡ x
 inverse_of_gives_back kind x ops good apart =

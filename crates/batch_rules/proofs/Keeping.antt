@@ -1,4 +1,5 @@
--- A batch with texts of a kind, on a text of it, leaves it of the kind at each moment, and so does its inverse.
+-- A batch with texts of a kind, applied to a text of the kind, keeps the text of the kind at each step, and so does its
+-- inverse.
 use Rattle.std.proofs.Common.{◌≡◌, ℕ, zero, suc, ◌+◌, ◌-◌, ◌≤◌, true, false, not, nat_lt, List, [], ◌∷◌, ◌++◌, length, map, take, drop, Ok, refl, ap, sym, subst, ◌∙◌, length-append, length-drop, arith}
 use Rattle.std.specs.List.{All}
 use Rattle.std.proofs.lemmas.Bool.{lt-ltb, le-leb, and_from, and_parts}
@@ -22,7 +23,7 @@ use Rattle.batch_rules.proofs.Pairs.{cuts_pair-drop}
 abbrev pub HasTextOf : Kind → Op → Type 0
 HasTextOf kind op = IsOfKind kind op.text
 
--- ---- the texts of a batch that was checked
+-- ---- the texts of a checked batch
 
 texts_mapped : (kind : Kind) (ops : List Op) → All (HasTextOf kind) (map (op_in kind) ops)
 texts_mapped kind [] = All-nil (HasTextOf kind)
@@ -50,7 +51,7 @@ ops_in_again Mixed ops = refl
 ops_in_again Lf ops = mapped_again Lf ops
 ops_in_again Crlf ops = mapped_again Crlf ops
 
--- a batch that was checked is checked again with the same answer
+-- checking a checked batch again gives the same result
 pub checked_again : (kind : Kind) (x : List ℕ) (ops sorted : List Op) → checked_batch kind x ops ≡ Ok sorted
     → checked_batch kind x sorted ≡ Ok sorted
 checked_again kind x ops sorted rule =
@@ -59,7 +60,7 @@ checked_again kind x ops sorted rule =
     ap (ops_in kind) ok.in_order ∙ sorted_ops-ops_in kind (ops_in kind ops) ∙ ap sorted_ops (ops_in_again kind ops) ∙ sym ok.in_order in
     rw again (rw (ok.in_order, checked_ops-sorted_ops kind x (ops_in kind ops)) (rw ok.in_order at rule))
 
--- ---- places of the rest of a text
+-- ---- valid offsets in the suffix of a text
 
 cuts_ending-drop : (at k : ℕ) (x : List ℕ) → cuts_ending (drop at x) (suc k) ≡ cuts_ending x (at + suc k)
 cuts_ending-drop at k x =
@@ -90,15 +91,15 @@ place_in_rest kind at zero x within place =
 place_in_rest kind at (suc k) x within place =
     and_from _ _ (le-leb (suc k) (length (drop at x)) (omega (arith, length-drop at x))) (ap not (cuts_in-drop kind at k x) ∙ (and_parts _ _ place).1)
 
--- ---- on the way on
+-- ---- the steps of a batch and of its inverse
 
--- ops that stand from a place on stand from the start on
+-- ops that are ordered from an offset on are ordered from the start of the text on
 stands_lower : (at : ℕ) (x : List ℕ) (ops : List Op) → StandFrom at x ops → StandFrom 0 x ops
 stands_lower at x [] standing = omega arith
 stands_lower at x (op ∷ ops) standing = (omega arith, standing.1, standing.2)
 
 module _ (kind : Kind) (x : List ℕ) (whole : IsOfKind kind x) where
-  -- what stands before an op, and behind it
+  -- the text before an op and the text after it are of the kind
   kept_of_kind : (at : ℕ) (op : Op) → at ≤ op.span.start → IsGood kind x op → IsOfKind kind (drop at x)
       → IsOfKind kind (take (op.span.start - at) (drop at x)) × IsOfKind kind (drop op.span.end x)
   kept_of_kind at op above good rest =
@@ -119,7 +120,7 @@ module _ (kind : Kind) (x : List ℕ) (whole : IsOfKind kind x) where
       of_kind-append kind (take (op.span.start - at) (drop at x) ++ op.text) (applied_from op.span.end x ops)
       (of_kind-append kind (take (op.span.start - at) (drop at x)) op.text parts.0 (All-head (HasTextOf kind) op ops texts)) later
 
-  -- on the way on
+  -- the batch keeps the kind at each step
   keeps_from : (ops : List Op) → StandFrom 0 x ops → All (IsGood kind x) ops → All (HasTextOf kind) ops → KeepsKind kind x ops
   keeps_from ops standing good texts zero =
       subst (IsOfKind kind) (sym (backwards_is_one_pass x ops standing)) (of_kind-applied_from 0 ops standing good texts whole)
@@ -127,7 +128,7 @@ module _ (kind : Kind) (x : List ℕ) (whole : IsOfKind kind x) where
   keeps_from (op ∷ ops) standing good texts (suc k) =
       keeps_from ops (stands_lower op.span.end x ops standing.2) (All-tail (IsGood kind x) op ops good) (All-tail (HasTextOf kind) op ops texts) k
 
-  -- and on the way back
+  -- the inverse keeps the kind at each step
   keeps_back_from : (at now : ℕ) (y : List ℕ) (ops : List Op) → StandFrom at x ops → All (IsGood kind x) ops → All (HasTextOf kind) ops
       → drop now y ≡ applied_from at x ops → now + length (applied_from at x ops) ≡ length y
       → IsOfKind kind (drop at x) → IsOfKind kind (take now y) → KeepsKind kind y (inverse_from at now x ops)
@@ -158,7 +159,7 @@ module _ (kind : Kind) (x : List ℕ) (whole : IsOfKind kind x) where
       keeps_back_from op.span.end later y ops standing.2 (All-tail (IsGood kind x) op ops good) (All-tail (HasTextOf kind) op ops texts)
       start (omega (arith, size, length-applied_from at x op ops standing)) parts.1 (subst (IsOfKind kind) (sym passed) passed_of_kind) k
 
--- of a batch that was checked
+-- the same for a checked batch
 module _ (kind : Kind) (x : List ℕ) (ops sorted : List Op) (rule : checked_batch kind x ops ≡ Ok sorted) (whole : IsOfKind kind x) where
   texts : All (HasTextOf kind) sorted
   texts = rw (accepted kind x (ops_in kind ops) sorted rule).in_order (All-sorted_ops (HasTextOf kind) (ops_in kind ops) (texts_in kind ops))

@@ -20,7 +20,7 @@ put_in_order_moves op (next ∷ ops) =
           (IsPermutation-cons next _ _ (put_in_order_moves op ops))
     ]
 
--- the order loses no op
+-- the sorted ops are a permutation of the ops
 pub sorted_ops_move : (ops : List Op) → IsPermutation ops (sorted_ops ops)
 sorted_ops_move [] = IsPermutation-refl []
 sorted_ops_move (op ∷ ops) =
@@ -39,7 +39,7 @@ stands_before_by a b ends starts =
       | inr same ↦ or_right _ _ (and_from _ _ (eq-eqb a.span.end b.span.end (omega arith)) (le-leb a.span.start b.span.start starts))
     ]
 
--- ops that stand one after another are in order
+-- ops that are ordered within a text are sorted
 pub sorted_ops_standing : (at : ℕ) (x : List ℕ) (ops : List Op) → StandFrom at x ops → sorted_ops ops ≡ ops
 sorted_ops_standing at x [] standing = refl
 sorted_ops_standing at x (op ∷ []) standing = refl
@@ -48,7 +48,7 @@ sorted_ops_standing at x (op ∷ next ∷ ops) standing =
     let before = stands_before_by op next (omega (arith, standing.2.0, standing.2.1)) (omega (arith, standing.1, standing.2.0)) in
     ap (put_in_order op) rest ∙ rw before refl
 
--- as the order of the ops goes: by end, then by start
+-- the order of the ops: by end, then by start
 at_itself : (a : Op) → stands_before a a ≡ true
 at_itself a = stands_before_by a a (omega arith) (omega arith)
 
@@ -58,7 +58,7 @@ in_turn a b c ab bc = grind (arith, nat_tests)
 one_way : (a b : Op) → stands_before a b ≡ false → stands_before b a ≡ true
 one_way a b ab = grind (arith, nat_tests)
 
--- each op stands before those behind it
+-- each op is before all later ones
 abbrev InOrder : List Op → Type 0
 InOrder [] = ⊤
 InOrder (op ∷ ops) = All (λ o. stands_before op o ≡ true) ops × InOrder ops
@@ -79,14 +79,14 @@ in_order_sorted : (ops : List Op) → InOrder (sorted_ops ops)
 in_order_sorted [] = tt
 in_order_sorted (op ∷ ops) = in_order_put op (sorted_ops ops) (in_order_sorted ops)
 
--- ops with one span
+-- ops with equal spans
 abbrev same_place : Op → Op → Bool
 same_place a b = stands_before b a && stands_before a b
 
 alike : (a b c : Op) → same_place a b ≡ true → same_place a c ≡ true → stands_before b c ≡ true
 alike a b c ab ac = in_turn b a c (and_parts _ _ ab).0 (and_parts _ _ ac).1
 
--- two ops, the first of which is put behind the second only where they are not both kept
+-- two ops can be put in front in either order with the same filtered list, unless both are kept
 two_kept : (op next : Op) (ops : List Op) (a b : Bool) → (a ≡ true → b ≡ true → ⊥) → cond b (next ∷ cond a (op ∷ ops) ops) (cond a (op ∷ ops) ops) ≡ cond a (op ∷ cond b (next ∷ ops) ops) (cond b (next ∷ ops) ops)
 two_kept op next ops true true apart = absurd (apart refl refl)
 two_kept op next ops true false apart = refl
@@ -102,7 +102,7 @@ kept_put x op (next ∷ ops) =
           (two_kept op next (filter (same_place x) ops) (same_place x op) (same_place x next) (λ a b. both_ways _ behind (alike x op next a b)))
     ]
 
--- ops with one span stay in the order of the batch
+-- ops with equal spans stay in the order of the batch
 kept_sorted : (x : Op) (ops : List Op) → filter (same_place x) (sorted_ops ops) ≡ filter (same_place x) ops
 kept_sorted x [] = refl
 kept_sorted x (op ∷ ops) =
@@ -114,7 +114,7 @@ same_itself a = and_from _ _ (at_itself a) (at_itself a)
 first_kept : (a : Op) (ops : List Op) → filter (same_place a) (a ∷ ops) ≡ a ∷ filter (same_place a) ops
 first_kept a ops = rw (same_itself a) refl
 
--- what is kept of a list in order stands behind the first op of the list
+-- `stands_before` holds for the first op of a sorted list and the first op that a filter keeps
 behind_first : (p : Op → Bool) (z y : Op) (ops rest : List Op) → InOrder (z ∷ ops) → filter p (z ∷ ops) ≡ y ∷ rest → stands_before z y ≡ true
 behind_first p z y ops rest ordered e =
     let all = All-cons (λ o. stands_before z o ≡ true) z ops (at_itself z) ordered.0 in
@@ -127,7 +127,7 @@ rest_kept false y a b e = e
 abbrev KeepAlike : List Op → List Op → Type 0
 KeepAlike a b = (x : Op) → filter (same_place x) a ≡ filter (same_place x) b
 
--- a list in order is known by what it keeps for each op
+-- two sorted lists are equal if filtering by each op's span gives the same ops
 same_order : (a b : List Op) → InOrder a → InOrder b → KeepAlike a b → a ≡ b
 same_order [] [] left right keep = refl
 same_order [] (z ∷ b) left right keep = absurd (let e : [] ≡ z ∷ filter (same_place z) b = keep z ∙ first_kept z b in cc)
@@ -143,7 +143,7 @@ same_order (y ∷ a) (z ∷ b) left right keep =
     let keep_same : KeepAlike (y ∷ a) (y ∷ b) = subst (λ o. KeepAlike (y ∷ a) (o ∷ b)) same keep in
     rw same (ap (λ l. y ∷ l) (same_order a b left.1 right.1 (λ x. rest_kept (same_place x y) y _ _ (keep_same x))))
 
--- each op stands before the next
+-- each op is before the next one
 abbrev pub StandNext : List Op → Type 0
 StandNext ops = (k : ℕ) (d : Op) → k + 1 < length ops → stands_before (get_or ops k d) (get_or ops (k + 1) d) ≡ true
 
@@ -176,14 +176,14 @@ sorted_in_order (op ∷ next ∷ ops) ordered =
     let before : stands_before op next ≡ true = All-head (λ o. stands_before op o ≡ true) next ops ordered.0 in
     ap (put_in_order op) (sorted_in_order (next ∷ ops) ordered.1) ∙ rw before refl
 
--- ops are in order exactly where each stands before the next
+-- ops are sorted exactly if each is before the next one
 pub sorted_next : (ops : List Op) → StandNext ops → sorted_ops ops ≡ ops
 sorted_next ops next = sorted_in_order ops (in_order_from ops next)
 
 pub next_sorted : (ops : List Op) → sorted_ops ops ≡ ops → StandNext ops
 next_sorted ops sorted = next_from ops (subst InOrder sorted (in_order_sorted ops))
 
--- what is in order stays so
+-- sorting twice equals sorting once
 pub sorted_ops_again : (ops : List Op) → sorted_ops (sorted_ops ops) ≡ sorted_ops ops
 sorted_ops_again ops = sorted_in_order (sorted_ops ops) (in_order_sorted ops)
 

@@ -15,7 +15,7 @@ use Rattle.batch_rules.proofs.Standing.{IsGood}
 abbrev pub HasPairedText : Op → Type 0
 HasPairedText op = IsPaired op.text
 
--- the rest of a text has the places of the text
+-- an offset greater than 0 in a suffix is inside a pair exactly if the same offset of the text is
 pub cuts_pair-drop : (at k : ℕ) (x : List ℕ) → cuts_pair (drop at x) (suc k) ≡ cuts_pair x (at + suc k)
 cuts_pair-drop at k x =
     let here : nat_lt 0 (suc k) ≡ true = lt-ltb 0 (suc k) (omega arith) in
@@ -29,7 +29,7 @@ place_in_rest at zero x within place = and_from _ _ (le-leb 0 (length (drop at x
 place_in_rest at (suc k) x within place =
     and_from _ _ (le-leb (suc k) (length (drop at x)) (omega (arith, length-drop at x))) (ap not (cuts_pair-drop at k x) ∙ (and_parts _ _ place).1)
 
--- where the texts have no lone surrogate, the rest of the text after the batch has none
+-- if the texts have no unpaired surrogate, the rest of the text after the batch has none
 IsPaired-applied_from : (kind : Kind) (at : ℕ) (x : List ℕ) (ops : List Op) → StandFrom at x ops → All (IsGood kind x) ops → All HasPairedText ops → IsPaired x → IsPaired (drop at x)
     → IsPaired (applied_from at x ops)
 IsPaired-applied_from kind at x [] standing good texts whole rest = rest
@@ -47,7 +47,7 @@ IsPaired-applied_from kind at x (op ∷ ops) standing good texts whole rest =
 pub IsPaired-applied : (kind : Kind) (x : List ℕ) (ops : List Op) → StandFrom 0 x ops → All (IsGood kind x) ops → All HasPairedText ops → IsPaired x → IsPaired (applied_from 0 x ops)
 IsPaired-applied kind x ops standing good texts whole = IsPaired-applied_from kind 0 x ops standing good texts whole whole
 
--- the texts of the inverse have none either
+-- the texts of the inverse have no unpaired surrogate
 IsPaired-inverse_from : (kind : Kind) (at now : ℕ) (x : List ℕ) (ops : List Op) → All (IsGood kind x) ops → IsPaired x → All HasPairedText (inverse_from at now x ops)
 IsPaired-inverse_from kind at now x [] good whole = All-nil HasPairedText
 IsPaired-inverse_from kind at now x (op ∷ ops) good whole =

@@ -1,4 +1,4 @@
--- Where the ops of an accepted batch stand, and the length of what they leave.
+-- The spans of the ops of an accepted batch, and the length of the resulting text.
 use Rattle.std.proofs.Common.{◌≡◌, ℕ, ◌+◌, ◌-◌, ◌≤◌, ltb, Bool, cond, true, false, List, [], ◌∷◌, ◌++◌, length, take, drop, Result, Ok, Err, refl, subst, length-append, length-drop, sym, arith}
 use Rattle.std.specs.List.{All}
 use Rattle.std.proofs.lemmas.Bool.{ltb-false, or_parts}
@@ -24,12 +24,12 @@ all_good kind x (op ∷ ops) e =
     let parts = or_parts _ _ e in
     All-cons (IsGood kind x) op ops parts.0 (all_good kind x ops parts.1)
 
--- the order hides no bad span
+-- sorting does not change whether there is an invalid span
 pub has_bad_span-sorted_ops : (kind : Kind) (x : List ℕ) (ops : List Op) → has_bad_span kind x (sorted_ops ops) ≡ has_bad_span kind x ops
 has_bad_span-sorted_ops kind x ops =
     sym (list_any-IsPermutation (λ op. is_bad_span kind x op.span) ops (sorted_ops ops) (sorted_ops_move ops))
 
--- ops in order that do not overlap, by spans of the text
+-- sorted ops without overlap and with valid spans are ordered within the text
 pub stand_from_tests : (kind : Kind) (at : ℕ) (x : List ℕ) (op : Op) (ops : List Op) → at ≤ op.span.start → All (IsGood kind x) (op ∷ ops) → overlap (op ∷ ops) ≡ false → StandFrom at x (op ∷ ops)
 stand_from_tests kind at x op [] above good apart =
     let span = span_from_test kind x op.span (All-head (IsGood kind x) op [] good) in
@@ -46,7 +46,7 @@ stand_from_start kind x (op ∷ ops) good apart = stand_from_tests kind 0 x op o
 pub sorted_ops_stand : (kind : Kind) (x : List ℕ) (ops : List Op) → has_bad_span kind x ops ≡ false → overlap (sorted_ops ops) ≡ false → StandFrom 0 x (sorted_ops ops)
 sorted_ops_stand kind x ops good apart = stand_from_start kind x (sorted_ops ops) (All-sorted_ops (IsGood kind x) ops (all_good kind x ops good)) apart
 
--- what an accepted kind batch is
+-- the properties of an accepted batch for a text of a kind
 pub record IsAccepted (kind : Kind) (x : List ℕ) (ops sorted : List Op) : Type 0 where
   pub in_order : sorted ≡ sorted_ops ops
   pub good : All (IsGood kind x) sorted
@@ -69,13 +69,13 @@ accepted_at kind x ops sorted false false false h1 h2 h3 e =
 pub accepted : (kind : Kind) (x : List ℕ) (ops sorted : List Op) → checked_ops kind x ops ≡ Ok sorted → IsAccepted kind x ops sorted
 accepted kind x ops sorted e = accepted_at kind x ops sorted _ _ _ refl refl refl e
 
--- a place that ops stand from lies within the text
+-- an offset from which ops are ordered lies within the text
 pub standing_within : (at : ℕ) (x : List ℕ) (ops : List Op) → StandFrom at x ops → at ≤ length x
 standing_within at x [] standing = standing
 standing_within at x (op ∷ ops) standing =
     omega (arith, standing.0, standing.1, standing_within op.span.end x ops standing.2)
 
--- ops that stand in a text follow one another
+-- ops that are ordered within a text follow one another
 pub follow_standing : (at : ℕ) (x : List ℕ) (ops : List Op) → StandFrom at x ops → FollowFrom at ops
 follow_standing at x [] standing = tt
 follow_standing at x (op ∷ ops) standing = (standing.0, standing.1, follow_standing op.span.end x ops standing.2)
@@ -91,13 +91,14 @@ pub length-applied_from : (at : ℕ) (x : List ℕ) (op : Op) (ops : List Op) �
 length-applied_from at x op ops standing =
     omega (arith, length-append (take (op.span.start - at) (drop at x) ++ op.text) (applied_from op.span.end x ops), length-append (take (op.span.start - at) (drop at x)) op.text, length-kept at x op ops standing)
 
--- the new texts all stand in the text after the batch
+-- the length of the new texts together is at most that of the text after the batch
 pub text_units_applied : (at : ℕ) (x : List ℕ) (ops : List Op) → StandFrom at x ops → text_units ops ≤ length (applied_from at x ops)
 text_units_applied at x [] standing = omega arith
 text_units_applied at x (op ∷ ops) standing =
     omega (arith, sum_by-cons {X = Op} (λ o. length o.text) op ops, length-applied_from at x op ops standing, text_units_applied op.span.end x ops standing.2)
 
--- the texts of the ops that take a batch back stood in the text before it
+-- the texts of the inverse were parts of the old text, so their length together is at most that of the old text from
+-- `at` on
 pub text_units_inverse : (at now : ℕ) (x : List ℕ) (ops : List Op) → StandFrom at x ops → at + text_units (inverse_from at now x ops) ≤ length x
 text_units_inverse at now x [] standing = omega (arith, standing)
 text_units_inverse at now x (op ∷ ops) standing =

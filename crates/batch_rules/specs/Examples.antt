@@ -53,7 +53,7 @@ texts_of_the_kind = refl
 a_place_inside_an_ending : checked_batch Crlf (codes "a\r\nb") (op 2 2 (codes "x") ∷ []) ≡ Err refused.range
 a_place_inside_an_ending = refl
 
--- `X` before `ab`, and then `Y` at the end of what came of it
+-- `X` before `ab`, and then `Y` at the end of the result
 two_batches_in_turn : after_batches (codes "ab") ((op 0 0 (codes "X") ∷ []) ∷ (op 3 3 (codes "Y") ∷ []) ∷ []) ≡ codes "XabY"
 two_batches_in_turn = refl
 

@@ -1,8 +1,8 @@
--- Why the rule of a batch refuses it. Want of memory is no such reason: the rule takes none.
+-- The reasons why the rule refuses a batch. Lack of memory is not among them: the rule needs none.
 pub data BatchRefusal : Type 0 where
-  -- the span of an edit is none of the text
+  -- the span of an edit is invalid for the text
   range : BatchRefusal
   -- two edits overlap
   overlap : BatchRefusal
-  -- the new text would be too long
+  -- the new text would have too many units
   limit : BatchRefusal

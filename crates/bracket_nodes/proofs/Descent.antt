@@ -1,4 +1,4 @@
--- The walk down a tree: each part has fewer nodes than the tree, and what holds where nothing was found.
+-- The walk down a tree: each part has fewer nodes than the tree, and a property that holds if nothing was found.
 use Rattle.std.proofs.Common.{◌<◌, Option, Some, None, ap, sym, subst, arith, inl, inr}
 use Rattle.std.specs.Prelude.{IfNone}
 use Rattle.text_lengths.specs.declared.Length.{Length}

@@ -1,4 +1,4 @@
--- Where the entries of a tree stand: from its start on, and before its end.
+-- The places of the entries of a tree: at or after its start, and before its end.
 use Rattle.std.proofs.Common.{◌≡◌, ℕ, suc, ◌<◌, true, Option, Some, None, List, [], ◌∷◌, ◌++◌, sym, ap, subst, ◌∙◌}
 use Rattle.text_lengths.specs.declared.Length.{Length}
 use Rattle.text_lengths.specs.Length.{length_plus}
@@ -6,7 +6,7 @@ use Rattle.text_lengths.proofs.Lengths.{length_plus_assoc}
 use Rattle.bracket_rules.specs.Parse.{Bracket, bracket, Spot, spot, Judged, judged_opening}
 use Rattle.bracket_tree_rules.specs.Tree.{Tree, text, pair, stray, capped, nothing, two, three, wide, width_of, tree_length, inside_start, inside_end, closing_spot, closing_entries, tree_entries, IsWidth, IsTree}
 
--- this holds of the place of each of these entries
+-- the property holds for the place of each of these entries
 abbrev pub EachPlace : (Length → Type 0) → List Judged → Type 0
 EachPlace P [] = Unit {0}
 EachPlace P (j ∷ js) = P j.entry.place × EachPlace P js
@@ -25,7 +25,7 @@ EachPlace-closing : (P : Length → Type 0) (q : Length) (k level : ℕ) (c : Op
 EachPlace-closing P q k level None opener h = tt
 EachPlace-closing P q k level (Some w) opener h = (h, tt)
 
--- What holds of a tree's start, and with a place of each later one, holds of the place of each entry.
+-- A property that holds at the tree's start, and is inherited by later places, holds for the place of each entry.
 pub each_later : (P Q : Length → Type 0) → ((x l : Length) → P x → P (length_plus x l)) → ((x : Length) → P x → Q x)
     → (q : Length) (level : ℕ) (t : Tree) → P q → EachPlace Q (tree_entries q level t)
 each_later P Q later tells q level (text l) h = tt
@@ -58,7 +58,8 @@ closing_earlier : (P Q : Length → Type 0) → ((x : Length) (w : ℕ) → 0 < 
 closing_earlier P Q tells q k level None opener h e = tt
 closing_earlier P Q tells q k level (Some w) opener h e = (tells q w h e, tt)
 
--- What holds of a tree's end, and with a place of each earlier one, tells of the place of each entry, which ends there or before.
+-- A property that holds at the tree's end, and is inherited by earlier places, holds at the end of each entry and so
+-- implies Q at its place.
 pub each_earlier : (P Q : Length → Type 0) → ((x l : Length) → P (length_plus x l) → P x)
     → ((x : Length) (w : ℕ) → 0 < w → P (length_plus x (wide w)) → Q x)
     → (q : Length) (level : ℕ) (t : Tree) → IsTree t → P (length_plus q (tree_length t)) → EachPlace Q (tree_entries q level t)

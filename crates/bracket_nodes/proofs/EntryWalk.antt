@@ -1,4 +1,4 @@
--- The walk down to the entries of some lines: a part above or below these lines has none of them.
+-- The walk down to the entries of some lines: a part before or after these lines has no entry in them.
 use Rattle.std.proofs.Common.{◌≡◌, ℕ, suc, ◌+◌, ◌<◌, ◌≤◌, Bool, true, false, cond, ◌&&◌, leb, Option, List, [], ◌∷◌, ◌++◌, length, take, refl, ap, sym, ◌∙◌, arith, append_assoc, add-one}
 use Rattle.std.specs.List.{filter}
 use Rattle.std.proofs.lemmas.Bool.Decides.{nat_tests}
@@ -20,7 +20,7 @@ pub chosen-append : (from to : ℕ) (xs ys : List Judged) → chosen from to (xs
 chosen-append from to xs ys =
     ap (filter (is_between from to)) (entries_of-append xs ys) ∙ filter-append (is_between from to) (entries_of xs) (entries_of ys)
 
--- no entry of this place starts in these lines
+-- an entry at this place does not start in these lines
 abbrev IsOutside : ℕ → ℕ → Length → Type 0
 IsOutside from to place = (leb from place.lines && leb place.lines to) ≡ false
 
@@ -96,7 +96,7 @@ chosen_of_pair from to q level k o i c items =
     ∙ sym (append_assoc items (chosen from to first) (chosen from to inside ++ chosen from to last))
     ∙ sym (append_assoc (items ++ chosen from to first) (chosen from to inside) (chosen from to last)))
 
--- what was there stays in front, through one more append
+-- the old entries stay a prefix after one more append
 pub kept_through : (old more new : List Entry) → take (length (old ++ more)) new ≡ old ++ more → take (length old) new ≡ old
 kept_through old more new h =
     let fits : length old ≤ length (old ++ more) = omega (arith, length-append old more) in

@@ -1,4 +1,4 @@
--- One more list after the others.
+-- Appends one more list.
 use Rattle.std.proofs.Common.{◌≡◌, ℕ, ◌+◌, true, List, [], ◌∷◌, ◌++◌, refl, ap, sym, ◌∙◌, arith, append_assoc}
 use Rattle.std.proofs.lemmas.List.{append-nil}
 use Rattle.bracket_tree_rules.specs.Tree.{Tree, text, pair, stray, capped, nothing, two, three, weight, items, is_nothing}
@@ -30,7 +30,7 @@ pub popped_weight : (old new : List Link) (top : Link) → old ≡ new ++ top �
     → linked_weight old ≡ linked_weight new + weight (link_tree top)
 popped_weight old new top h = ap linked_weight h ∙ linked_weight_push new top
 
--- a list of no nodes
+-- an empty list
 pub no_items : (t : Tree) → is_nothing t ≡ true → t ≡ nothing
 no_items nothing h = refl
 no_items (text l) h = cc
@@ -42,7 +42,7 @@ no_items (three a b c) h = cc
 
 -- ---- what a joiner has
 
--- a list is put after the others
+-- a list is appended
 pub Takes-put : (old new : Joiner) (list : Link) → new.lists.items ≡ old.lists.items ++ old.last ∷ [] → new.last ≡ list
     → Takes old (link_tree list) new
 Takes-put old new list h k = record {
@@ -50,7 +50,7 @@ Takes-put old new list h k = record {
   weighs = rw (k, h) (ap (λ (n : ℕ). n + weight (link_tree list)) (linked_weight_push old.lists.items old.last));
 }
 
--- a list leaves where nothing stands behind the lists
+-- the last list is removed, if nothing was after the lists
 pub Takes-popped : (old new : Joiner) (top : Link) → old.lists.items ≡ new.lists.items ++ top ∷ []
     → link_tree old.last ≡ nothing → link_tree new.last ≡ nothing → Takes new (link_tree top) old
 Takes-popped old new top h e f = record {
@@ -60,12 +60,12 @@ Takes-popped old new top h e f = record {
   weighs = rw (e, f) (let popped = popped_weight old.lists.items new.lists.items top h in omega arith);
 }
 
--- nodes `front` and then those of the list are `all`, with this weight
+-- the nodes `front` followed by those of the list are `all`, and the weights add up to w
 pub record Holds (front : List Tree) (before : ℕ) (list : Tree) (all : List Tree) (w : ℕ) : Type 0 where
   pub in_order : front ++ items list ≡ all
   pub weighs : before + weight list ≡ w
 
--- the list before the list leaves the front, and is joined to it
+-- the list before `list` is removed from the front and joined to it
 pub Holds-joined : (old new : List Tree) (v w : ℕ) (top list both : Tree) (all : List Tree) (sum : ℕ)
     → old ≡ new ++ items top → v ≡ w + weight top → Joins top list both
     → old ++ items list ≡ all → v + weight list ≡ sum → Holds new w both all sum
@@ -78,7 +78,7 @@ Holds-joined old new v w top list both all sum h k j l m = record {
   weighs = let joined : weight both ≡ weight top + weight list = j.weighs in omega arith;
 }
 
--- likewise two of them
+-- the same for two lists
 pub Holds-joined_three : (old mid new : List Tree) (u v w : ℕ) (top before list all_three : Tree) (all : List Tree) (sum : ℕ)
     → old ≡ mid ++ items top → u ≡ v + weight top → mid ≡ new ++ items before → v ≡ w + weight before
     → JoinsThree before top list all_three
@@ -91,7 +91,7 @@ Holds-joined_three old mid new u v w top before list all_three all sum h k h2 k2
 
 -- ---- a node is pushed
 
--- the list that was taken off is joined to the one behind it
+-- the removed list is joined to the one after it
 pub Holds-step : (old mid new : Joiner) (top list both : Tree) (all : List Tree) (sum : ℕ)
     → Takes mid top old → IsSame mid new → Joins top list both
     → joined_items old ++ items list ≡ all → joined_weight old + weight list ≡ sum
@@ -108,7 +108,7 @@ Holds-step_three old mid new top before list all_three all sum t s j k l =
     Holds-joined_three (joined_items old) (joined_items mid) (joined_items new) (joined_weight old) (joined_weight mid) (joined_weight new)
     top before list all_three all sum t.in_order t.weighs s.in_order s.weighs j k l
 
--- the list is put after those that were left
+-- the list is appended to those that are left
 pub Takes-last : (start old new : Joiner) (list node : Tree) → Takes old list new
     → joined_items old ++ items list ≡ joined_items start ++ items node → joined_weight old + weight list ≡ joined_weight start + weight node
     → Takes start node new

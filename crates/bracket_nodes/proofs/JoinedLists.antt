@@ -1,4 +1,4 @@
--- What a list of many nodes shows.
+-- The nodes of a list of many nodes.
 use Rattle.std.proofs.Common.{◌≡◌, ℕ, List, Result, Ok, Err}
 use Rattle.std.specs.Prelude.{IfOk}
 use Rattle.text_lengths.specs.declared.Length.{Length}
@@ -6,7 +6,7 @@ use Rattle.bracket_tree_rules.specs.Items.{all_length, all_tokens, all_entries}
 use Rattle.bracket_tree_rules.specs.Tree.{Tree, items, tree_length, tree_tokens, tree_entries, all_items}
 use Rattle.bracket_tree_rules.proofs.ItemLists.{list_length, list_tokens, list_entries}
 
--- the answer is a list of the items of these trees, in their order
+-- the result is a list of the items of these trees, in their order
 abbrev pub Joins : {E : Type 0} → Result Tree E → List Tree → Type 0
 Joins result ts = IfOk result (λ list. items list ≡ all_items ts)
 

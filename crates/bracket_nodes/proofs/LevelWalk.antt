@@ -66,7 +66,7 @@ early_opening p q o k level before closer rest h =
     level_before-opening p before (bracket q o k true) level closer rest
     ∙ ap (λ (c : Bool). level_before p (cond c (suc level) before) rest) h
 
--- what stands before the place in a pair whose opening bracket does, and whose end is there or before
+-- the entries before the place in a pair whose opening bracket starts before it and which ends at or before it
 pair_end : (q : Length) (o : ℕ) (i : Tree) (w : ℕ)
     → length_plus (inside_end q o i) (wide w) ≡ length_plus q (length_plus (length_plus (wide o) (tree_length i)) (wide w))
 pair_end q o i w =
@@ -125,7 +125,7 @@ pub level_in_pair_before : (p q : Length) (level before k o : ℕ) (i : Tree) (c
     → level_before p before (tree_entries q level (pair k o i c)) ≡ before
 level_in_pair_before p q level before k o i c h = level_before-late p q level before (pair k o i c) h
 
--- the closing bracket stands before the place
+-- the closing bracket starts before the place
 pub level_past_pair : (p q : Length) (level before k o : ℕ) (i : Tree) (c : Option ℕ) → is_before q p ≡ true
     → (is_some_width c && is_before (inside_end q o i) p) ≡ true
     → level_before p before (tree_entries q level (pair k o i c)) ≡ level
@@ -137,7 +137,7 @@ level_past_pair p q level before k o i (Some w) h e =
     ∙ level_before-append p (suc level) inside (closing_entries (inside_end q o i) k level (Some w) (spot q o))
     ∙ ap (λ (b : Bool). cond b level (level_before p (suc level) inside)) e
 
--- there is no closing bracket, or it does not stand before the place
+-- there is no closing bracket, or it does not start before the place
 pub level_inside : (p q : Length) (level before k o : ℕ) (i : Tree) (c : Option ℕ) → is_before q p ≡ true
     → (is_some_width c && is_before (inside_end q o i) p) ≡ false
     → level_before p before (tree_entries q level (pair k o i c)) ≡ level_before p (level + 1) (tree_entries (inside_start q o) (level + 1) i)
@@ -166,7 +166,7 @@ level_in_second p q level before a b h =
     level_before-append p before (tree_entries q level a) (tree_entries r level b)
     ∙ ap (λ (n : ℕ). level_before p n (tree_entries r level b)) (level_before-early p q level before a h)
 
--- a list of three shows what a list of one and of two does
+-- a list of three has the levels of a list of the first and a list of the other two
 pub level_in_first_of_three : (p q : Length) (level before : ℕ) (a b c : Tree) → is_before (length_plus q (tree_length a)) p ≡ false
     → level_before p before (tree_entries q level (three a b c)) ≡ level_before p before (tree_entries q level a)
 level_in_first_of_three p q level before a b c h = level_in_first p q level before a (two b c) h

@@ -1,4 +1,4 @@
--- Entries that are listed bit by bit.
+-- Entries listed step by step.
 use Rattle.std.proofs.Common.{◌≡◌, ℕ, ◌+◌, ◌<◌, ◌≤◌, true, Option, List, [], ◌∷◌, ◌++◌, length, take, refl, ap, sym, ◌∙◌, arith, append_assoc}
 use Rattle.std.proofs.lemmas.List.{append-nil, take-append-le, take-take, take_all, length-take}
 use Rattle.text_lengths.specs.declared.Length.{Length}
@@ -21,7 +21,7 @@ some_size nothing = omega arith
 some_size (two a b) = omega arith
 some_size (three a b c) = omega arith
 
--- the last one comes first
+-- the last element is listed first
 pub all_left-push : (from to : ℕ) (xs : List Left) (x : Left) → all_left from to (xs ++ x ∷ []) ≡ entries_left from to x ++ all_left from to xs
 all_left-push from to [] x = sym (append-nil (entries_left from to x))
 all_left-push from to (y ∷ ys) x =
@@ -32,7 +32,7 @@ pub all_steps-push : (xs : List Left) (x : Left) → all_steps (xs ++ x ∷ []) 
 all_steps-push [] x = refl
 all_steps-push (y ∷ ys) x = let rest = all_steps-push ys x in omega arith
 
--- what was listed, and what is left of it before the rest
+-- the listed entries, and those left of the list before the rest
 pub listed_two : (from to : ℕ) (q : Length) (level : ℕ) (a b : Tree) (items rest one both : List Entry)
     → one ≡ chosen from to (tree_entries (length_plus q (tree_length a)) level b) ++ rest
     → both ≡ chosen from to (tree_entries q level a) ++ one
@@ -73,7 +73,7 @@ listed_pair from to q level k o i c items rest one both first d e f =
     ∙ sym (append_assoc (opened ++ inside) last rest)
     ∙ ap (λ (x : List Entry). x ++ rest) (sym (chosen_of_pair from to q level k o i c items))
 
--- what was there stays in front
+-- the old entries stay a prefix
 pub kept_on : (old mid new : List Entry) → take (length old) mid ≡ old → take (length mid) new ≡ mid → take (length old) new ≡ old
 kept_on old mid new h k =
     let fits : length old ≤ length mid = omega (arith, ap length h, length-take (length old) mid) in
@@ -83,7 +83,7 @@ pub kept_more : (old mid more : List Entry) → take (length old) mid ≡ old �
 kept_more old mid more h =
     kept_on old mid (mid ++ more) h (take-append-le (length mid) mid more (omega arith) ∙ take_all (length mid) mid (omega arith))
 
--- the next one was listed before what is left behind it
+-- the last element was listed before those left after it
 pub listed_on : (from to : ℕ) (before after rest : List Left) (x : Left) (items now : List Entry) → before ≡ rest ++ x ∷ []
     → now ++ all_left from to after ≡ (items ++ entries_left from to x) ++ all_left from to rest
     → now ++ all_left from to after ≡ items ++ all_left from to before

@@ -22,11 +22,11 @@ same_ahead kinds level from from' rest ts h t = subst (λ (x : List Row). Tells 
 
 -- ---- weights
 
--- nothing before what is left
+-- a weight of 0 before the rest
 nothing_after : (rest old : List ℕ) → HasWeight rest → AreCovered rest old → AreCovered (glue_weights (0 ∷ []) rest) old
 nothing_after rest old h k = subst (λ (ws : List ℕ). AreCovered ws old) (sym (zero_glue rest h)) k
 
--- brackets round what was parsed between them
+-- brackets around the parse of their content
 covered_pair : (before behind : ℕ) (inside rest mid old : List ℕ) → AreCovered (glue_weights (before ∷ []) mid) old
     → AreCovered (glue_weights inside (glue_weights (behind ∷ []) rest)) mid
     → AreCovered (glue_weights (glue_weights (glue_weights (before ∷ []) inside) (behind ∷ [])) rest) old
@@ -34,7 +34,7 @@ covered_pair before behind inside rest mid old h k =
     subst (λ (ws : List ℕ). AreCovered ws old) (sym (glue_weights-assoc (glue_weights (before ∷ []) inside) (behind ∷ []) rest))
     (covered_after (before ∷ []) inside (glue_weights (behind ∷ []) rest) mid old h k)
 
--- what follows is covered where nothing stands before it
+-- the rest is covered with a weight of 0 before it
 covered_behind_nothing : (inside rest mid : List ℕ) → HasWeight rest → AreCovered (glue_weights inside rest) mid
     → AreCovered (glue_weights inside (glue_weights (0 ∷ []) rest)) mid
 covered_behind_nothing inside rest mid h k =
@@ -173,7 +173,7 @@ Takes-paired old mid new kinds level k w t (AtClosing j v) below h l = either (e
         subst (λ (b : Bool). Takes old new kinds level (cond b (One (pair k w t (Some v))) (Last (pair k w t None) (AtClosing j v)))) (sym differ.0)
         (unclosed_below old mid new kinds level k w t below h j v differ.1 l)
 
--- what `paired` asks
+-- the precondition of `paired`
 pub asks_not_missing : (mid new : Ahead) (kinds level k : ℕ) (t : Tree) (stop : Stop)
     → Listed mid new (with_kind kinds k) (suc level) t stop → is_missing k t ≡ false
 asks_not_missing mid new kinds level k t stop l = not_missing_inside kinds level k mid.rows (rows_after stop new) t l.tells
@@ -245,7 +245,7 @@ whole start new t AtEnd l =
 whole start new t (AtClosing j v) l =
     let clash : false ≡ true = sym (has_kind-none j) ∙ l.stops.is_open in cc
 
--- without what stands behind it in its last line
+-- without the weight after it in its last line
 covered_front : (a : List ℕ) (n : ℕ) (old : List ℕ) → HasWeight a → AreCovered (glue_weights a (n ∷ [])) old → AreCovered a old
 covered_front a n old h k =
     AreCovered-then a (glue_weights a (n ∷ [])) old
@@ -257,7 +257,7 @@ pub whole_asked : (start new : Ahead) (t : Tree) (stop : Stop) → Listed start 
 whole_asked start new t AtEnd l = l.stops.asked
 whole_asked start new t (AtClosing j v) l = let clash : false ≡ true = sym (has_kind-none j) ∙ l.stops.is_open in cc
 
--- the tree of a whole text weighs no more than its lines
+-- in each line the tree of a whole text weighs at most the bound
 pub whole_light : (start new : Ahead) (t : Tree) (stop : Stop) → Listed start new 0 0 t stop → AreCovered (tree_weights t) (weights_ahead start)
 whole_light start new t (AtClosing j v) l = let clash : false ≡ true = sym (has_kind-none j) ∙ l.stops.is_open in cc
 whole_light start new t AtEnd l =

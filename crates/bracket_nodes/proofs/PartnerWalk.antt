@@ -137,7 +137,7 @@ closing_not_at : (p q : Length) (c : Option ℕ) → q ≢ p → (is_some_width 
 closing_not_at p q None h = refl
 closing_not_at p q (Some w) h = apart q p h
 
--- the other bracket of a pair, for any level
+-- the other bracket of a pair, at any level
 abbrev FoundAt : Length → Option (Length × ℕ) → Length → Tree → Type 0
 FoundAt p found q t = (level : ℕ) → option_map place_and_len (partner_at p (tree_entries q level t)) ≡ found
 

@@ -1,4 +1,4 @@
--- A part of a node on the path is on the path.
+-- A part of a node on the path is on the path too.
 use Rattle.bracket_tree_rules.specs.Tree.{Tree}
 use Rattle.bracket_tree_rules.specs.Parts.{IsPart}
 use Rattle.bracket_tree_rules.proofs.Parts.{part_shown}

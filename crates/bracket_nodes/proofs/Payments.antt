@@ -1,4 +1,4 @@
--- What is paid from call to call.
+-- The cost from call to call.
 use Rattle.std.proofs.Common.{ℕ, ◌+◌, ◌<◌, eqb, refl, ◌∙◌, arith, inl, inr}
 use Rattle.std.proofs.lemmas.Bool.{cases_Bool}
 use Rattle.bracket_nodes.specs.declared.parser.Stop.{Stop}
@@ -19,11 +19,11 @@ PaysOn-then a b c h k = record {
   deepest = k.deepest ∙ h.deepest;
 }
 
--- there is as much room behind what was paid for
+-- there is as much room after a paid call
 pub HasRoom-on : (a b : Paying) (level : ℕ) → PaysOn a b → HasRoom a level → HasRoom b level
 HasRoom-on a b level h room = record { known = h.known ∙ room.known; room = omega (arith, h.opens, h.deepest, room.room) }
 
--- and one level higher behind one of the opening brackets
+-- after an opening bracket there is room one level higher
 pub HasRoom-opened : (a b : Paying) (level : ℕ) → PaysOn a b × (b.opens < a.opens) → HasRoom a level → HasRoom b (level + 1)
 HasRoom-opened a b level h room =
     let fewer : b.opens < a.opens = h.1 in

@@ -1,4 +1,4 @@
--- Line breaks as a list in which each list has two parts.
+-- Line breaks as a list in which every list has two parts.
 use Rattle.std.proofs.Common.{◌≡◌, ℕ, zero, suc, ◌+◌, ◌-◌, ◌*◌, ◌%◌, ◌<◌, ◌≤◌, ◌^◌, min, true, false, None, refl, ap, ◌∙◌, inr, arith}
 use Rattle.std.proofs.Math.Nat.{two-pow-succ}
 use Rattle.std.proofs.lemmas.Nat.{pow_pos, pow_below}

@@ -44,7 +44,7 @@ pub HasRow-before : (c : ℕ) (ts : List Token) (n : ℕ) (rest : List Row) → 
 HasRow-before c ts n [] = tt
 HasRow-before c ts n (r ∷ rest) = tt
 
--- a line with a line behind it ends with its last bracket
+-- a line that is not the last one ends with its last bracket
 pub before_more : (c : ℕ) (ts : List Token) (n : ℕ) (rest : List Row) → HasRow rest → rows_before c ts n rest ≡ row (moved_back c ts) 0 ∷ rest
 before_more c ts n [] h = elim h [ ]
 before_more c ts n (r ∷ rest) h = refl
@@ -56,7 +56,7 @@ break_rows c n (r ∷ rest) h = ap (λ (y : List Row). empty_row ∷ y) (sym (em
 same_row : (x y : List Token) (m n : ℕ) → x ≡ y → m ≡ n → row x m ≡ row y n
 same_row x y m n p q = ap (λ (z : List Token). row z m) p ∙ ap (row y) q
 
--- the rows from column c on are some brackets up to column d, and the rows from there
+-- the rows from column c on are brackets up to column d, followed by the rows from there on
 pub cut : (c d n : ℕ) (front ts all : List Token) (rest : List Row) → c ≤ d → d ≤ n
     → moved_back c all ≡ front ++ shifted (d - c) (moved_back d ts)
     → rows_before c all n rest ≡ glue (row front (d - c) ∷ []) (rows_before d ts n rest)
@@ -65,7 +65,7 @@ cut c d n front ts all [] h k e =
     ap (λ (r : Row). r ∷ []) (same_row (moved_back c all) (front ++ shifted (d - c) (moved_back d ts)) (n - c) ((d - c) + (n - d)) e columns)
 cut c d n front ts all (r ∷ rest) h k e = ap (λ (x : List Token). row x 0 ∷ r ∷ rest) e
 
--- the token that starts at column c, and those behind it
+-- the token that starts at column c, and those after it
 pub token_parts : (c n : ℕ) (t : Token) (ts : List Token) → t.at ≡ c → AreInLine (c + t.len) n ts
     → moved_back c (t ∷ ts) ≡ token 0 t.len t.kind t.opening ∷ shifted ((c + t.len) - c) (moved_back (c + t.len) ts)
 token_parts c n t ts e k =
@@ -152,7 +152,7 @@ at_token c n t ts h = (omega arith, h.1, h.2, h.3)
 pub token_fits : (c n : ℕ) (t : Token) (ts : List Token) → t.at ≤ c → AreInLine c n (t ∷ ts) → c + t.len ≤ n
 token_fits c n t ts h k = let first : c ≤ t.at = k.0 in let rest = line_end (t.at + t.len) n ts k.3 in omega arith
 
--- at the start of the first line all lines weigh what they weigh
+-- at the start of the first line no weight has been taken yet
 pub whole_weights : (lines : List ScannedLine) (l : ScannedLine) → 0 < length lines → l ≡ get_or lines 0 l
     → with_break (l.columns - 0) (take (length lines - 1) (drop 1 lines)) ∷ scanned_weights (take (length lines - 1) (drop 1 lines)) ≡ scanned_weights lines
 whole_weights [] l h e = absurd (omega arith)

@@ -1,4 +1,4 @@
--- How what is kept of a tree is bounded by the tree's weight.
+-- Bounds on what is kept of a tree, by the tree's weight.
 use Rattle.std.specs.Prelude.{ℕ, ◌+◌, ◌≤◌, ◌^◌, unwrap_or}
 use Rattle.bracket_nodes.specs.declared.kept.Kept.{Kept}
 

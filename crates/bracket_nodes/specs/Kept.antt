@@ -14,7 +14,7 @@ abbrev pub inside_level : Option ℕ → Option ℕ → Option ℕ
 inside_level level None = Some (suc (unwrap_or level 0))
 inside_level level (Some width) = Some 0
 
--- the level after the last entry, counted from the level of the tree; none where there is no entry
+-- the level after the last entry, relative to the level of the tree; None if there is no entry
 abbrev pub last_level : Tree → Option ℕ
 last_level (text l) = None
 last_level (pair kind open_width inside close_width) = inside_level (last_level inside) close_width
@@ -24,7 +24,7 @@ last_level nothing = None
 last_level (two a b) = later (last_level a) (last_level b)
 last_level (three a b c) = later (last_level a) (later (last_level b) (last_level c))
 
--- the tree meets the rules of nodes and is not too heavy for 64 bits, and this is what is kept of it
+-- the tree meets the rules of nodes, its weight fits 64 bits, and `kept` is what is kept of it
 pub record Keeps (t : Tree) (kept : Kept) : Type 0 where
   pub tree : IsTree t
   pub light : weight t < 2 ^ 64
@@ -50,7 +50,7 @@ leaf_kept length missing last_level = record {
   last_level = last_level;
 }
 
--- what is kept of a list of this height, from what is kept of its parts
+-- what is kept of a list of this height, computed from its parts
 abbrev pub both_of : Kept → Kept → ℕ → Kept
 both_of a b height = record {
   length = length_plus a.length b.length;

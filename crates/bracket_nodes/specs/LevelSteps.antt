@@ -9,11 +9,11 @@ use Rattle.bracket_nodes.specs.declared.lookups.LevelWalk.{LevelWalk}
 use Rattle.bracket_nodes.specs.declared.lookups.LevelStep.{LevelStep}
 use Rattle.bracket_nodes.specs.declared.lookups.LevelStep.TheVariants.{On, At}
 
--- the level at place q in the node that the walk came to
+-- the level at place q in the node that the walk has reached
 abbrev pub level_told : LevelWalk → Length → ℕ
 level_told w q = level_before q w.before (tree_entries w.here.start w.level (seen_tree w.here.node))
 
--- a walk that goes on goes on to a part, where the level is the same
+-- a step of the walk moves to a part in which the level is the same
 pub record GoesOn (w : LevelWalk) (q : Length) (next : LevelWalk) : Type 0 where
   pub told : level_told w q ≡ level_told next q
   pub part : IsPart w.here.start (seen_tree w.here.node) next.here.start (seen_tree next.here.node)

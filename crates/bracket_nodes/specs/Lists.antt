@@ -1,11 +1,11 @@
--- Lists that are joined.
+-- Lists being joined.
 use Rattle.std.specs.Prelude.{◌≡◌, ℕ, ◌+◌, false, List, ◌++◌}
 use Rattle.bracket_tree_rules.specs.Tree.{Tree, height, weight, is_nothing, items}
 use Rattle.bracket_nodes.specs.Shapes.{link_tree}
 use Rattle.bracket_nodes.specs.declared.lists.Siblings.{Siblings}
 use Rattle.bracket_nodes.specs.declared.lists.Siblings.TheVariants.{One, Two}
 
--- a list of this height, and not the empty one
+-- a non-empty list of this height
 pub record IsListOf (h : ℕ) (t : Tree) : Type 0 where
   pub level : height t ≡ h
   pub some : is_nothing t ≡ false
@@ -26,12 +26,12 @@ abbrev pub sibling_weight : Siblings → ℕ
 sibling_weight (One a) = weight (link_tree a)
 sibling_weight (Two a b) = weight (link_tree a) + weight (link_tree b)
 
--- the list has the nodes of both, in order, and their weight
+-- the list has the nodes of both, in order, and the sum of their weights
 pub record Joins (a b t : Tree) : Type 0 where
   pub in_order : items t ≡ items a ++ items b
   pub weighs : weight t ≡ weight a + weight b
 
--- likewise of three
+-- the same for three lists
 pub record JoinsThree (a b c t : Tree) : Type 0 where
   pub in_order : items t ≡ items a ++ (items b ++ items c)
   pub weighs : weight t ≡ weight a + (weight b + weight c)

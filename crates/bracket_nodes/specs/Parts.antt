@@ -5,10 +5,10 @@ use Rattle.bracket_tree_rules.specs.Tree.{weight, tree_entries}
 use Rattle.bracket_nodes.specs.Seen.{seen_tree}
 use Rattle.bracket_nodes.specs.declared.placed.Placed.{Placed}
 
--- its entries, where it has so many pairs round it
+-- its entries, inside `level` pairs
 abbrev pub entries_at : Placed → ℕ → List Judged
 entries_at here level = tree_entries here.start level (seen_tree here.node)
 
--- the lines and columns up to it and in it together, which no place in it passes
+-- the lines and columns before it plus its weight, an upper bound for every place in it
 abbrev pub reach : Placed → ℕ
 reach here = here.start.lines + here.start.columns + weight (seen_tree here.node)

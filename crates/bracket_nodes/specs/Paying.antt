@@ -1,4 +1,4 @@
--- What is paid for what a source gives.
+-- The cost accounting of a source.
 use Rattle.std.specs.Prelude.{◌≡◌, ℕ, ◌+◌, ◌<◌, ◌≤◌, Bool, true, false, ⊤}
 use Rattle.bracket_rules.specs.declared.TheConstants.{MOST_OPEN}
 use Rattle.bracket_nodes.specs.declared.parser.Next.{Next}
@@ -8,8 +8,9 @@ use Rattle.bracket_nodes.specs.declared.parser.Stop.TheVariants.{AtEnd, AtClosin
 use Rattle.bracket_nodes.specs.declared.parser.Taken.{Taken}
 use Rattle.bracket_nodes.specs.declared.parser.Taken.TheVariants.{One, Last, Nothing}
 
--- What was paid so far, and what is due at most for all that is ahead. So many opening brackets at most may yet come on
--- their own, and no node that comes is nested deeper than this. Of some sources nothing is known.
+-- The cost paid so far, and an upper bound for the cost of everything ahead. At most `opens` unmatched opening
+-- brackets are still to come, and no node to come is nested deeper than `deepest`. Without `known` nothing is known
+-- of the source.
 pub record Paying : Type 0 where
   pub known : Bool
   pub paid : ℕ
@@ -20,23 +21,23 @@ pub record Paying : Type 0 where
 abbrev pub nothing_known : Paying
 nothing_known = record { known = false; paid = 0; due = 0; opens = 0; deepest = 0 }
 
--- where so many brackets are open, no node that comes meets the most that may be open
+-- where `level` brackets are open, no node to come reaches the limit on open brackets
 pub record HasRoom (a : Paying) (level : ℕ) : Type 0 where
   pub known : a.known ≡ true
   pub room : level + (a.opens + a.deepest) ≤ MOST_OPEN
 
--- no more was paid than was due
+-- at most the amount due was paid
 abbrev pub Spends : Paying → Paying → Type 0
 Spends old new = new.paid ≤ old.paid + old.due
 
--- what was paid is off what is due
+-- what was paid is deducted from what is due
 pub record PaysOn (old new : Paying) : Type 0 where
   pub known : new.known ≡ old.known
   pub pays : new.paid + new.due ≤ old.paid + old.due
   pub opens : new.opens ≤ old.opens
   pub deepest : new.deepest ≡ old.deepest
 
--- at the end nothing is due any more
+-- at the end nothing more is due
 abbrev pub PaysFor : Paying → Paying → Next → Type 0
 PaysFor old new End = ⊤
 PaysFor old new (Ready node) = PaysOn old new

@@ -1,4 +1,4 @@
--- A text as scanned lines, and what is left of it.
+-- A text as scanned lines, and the rest of it.
 use Rattle.std.specs.Prelude.{◌≡◌, ℕ, ◌+◌, ◌-◌, List, [], ◌∷◌, length, ⊤}
 use Rattle.bracket_rules.specs.declared.Token.{Token}
 use Rattle.bracket_rules.specs.Rows.{Row, row}
@@ -11,7 +11,7 @@ abbrev pub AreLines : List ScannedLine → Type 0
 AreLines [] = ⊤
 AreLines (l ∷ lines) = AreInLine 0 l.columns l.tokens.items × AreLines lines
 
--- the scans by a table of lines with these contents
+-- the lines are the scans, by this table, of lines with these contents
 abbrev pub AreScans : Table → List (List ℕ) → List ScannedLine → Type 0
 AreScans table [] [] = ⊤
 AreScans table (x ∷ xs) (l ∷ lines) =
@@ -24,7 +24,7 @@ abbrev pub moved_back : ℕ → List Token → List Token
 moved_back column [] = []
 moved_back column (t ∷ ts) = token (t.at - column) t.len t.kind t.opening ∷ moved_back column ts
 
--- the rows from a column of a line of so many columns on, where these tokens of it are left, and those rows follow
+-- the rows from `column` on of a line of `columns` columns with these tokens left, followed by `rows`
 abbrev pub rows_before : ℕ → List Token → ℕ → List Row → List Row
 rows_before column tokens columns [] = row (moved_back column tokens) (columns - column) ∷ []
 rows_before column tokens columns (r ∷ rows) = row (moved_back column tokens) 0 ∷ r ∷ rows
@@ -33,17 +33,17 @@ abbrev pub rows_of : List ScannedLine → List Row
 rows_of [] = []
 rows_of (l ∷ lines) = rows_before 0 l.tokens.items l.columns (rows_of lines)
 
--- what so many columns of a line weigh, with the break that ends it where more lines follow
+-- the weight of `columns` columns of a line, with one for the break if more lines follow
 abbrev pub with_break : ℕ → List ScannedLine → ℕ
 with_break columns [] = columns
 with_break columns (l ∷ lines) = columns + 1
 
--- the rows of a text of these lines: without any it is empty
+-- the rows of a text of these lines; without lines the text is empty
 abbrev pub scanned_rows : List ScannedLine → List Row
 scanned_rows [] = empty_row ∷ []
 scanned_rows (l ∷ lines) = rows_of (l ∷ lines)
 
--- what each line weighs
+-- the weight of each line
 abbrev pub scanned_weights : List ScannedLine → List ℕ
 scanned_weights [] = []
 scanned_weights (l ∷ lines) = with_break l.columns lines ∷ scanned_weights lines

@@ -1,4 +1,4 @@
--- What a borrowed node is as a tree.
+-- The tree of a borrowed node.
 use Rattle.bracket_tree_rules.specs.Tree.{Tree, text, pair, stray, capped, nothing, two, three}
 use Rattle.bracket_nodes.specs.declared.link.Seen.{Seen}
 use Rattle.bracket_nodes.specs.declared.link.Seen.TheVariants.{Here, Shared}

@@ -1,4 +1,4 @@
--- What a node is as a tree.
+-- The tree of a node.
 use Rattle.std.specs.Prelude.{ℕ, ◌+◌}
 use Rattle.bracket_tree_rules.specs.Tree.{Tree, text, pair, stray, capped, nothing, two, three}
 use Rattle.bracket_nodes.specs.declared.node.Link.{Link}
@@ -19,7 +19,7 @@ tree_of (Capped kind width) = capped kind width
 tree_of (Two a b) = two (link_tree a) (link_tree b)
 tree_of (Three a b c) = three (link_tree a) (link_tree b) (link_tree c)
 
--- how many nodes a tree has
+-- the number of nodes of a tree
 abbrev pub tree_size : Tree → ℕ
 tree_size (text l) = 1
 tree_size (pair kind open_width inside close_width) = 1 + tree_size inside

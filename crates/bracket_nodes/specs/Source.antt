@@ -1,4 +1,4 @@
--- What a source of brackets has ahead, what it gives, and what is parsed of it.
+-- What a source of brackets has ahead, what it gives, and the parse of it.
 use Rattle.std.specs.Prelude.{◌≡◌, ℕ, ◌+◌, ◌<◌, ◌≤◌, Bool, true, false, ◌==◌, if◌then◌else◌, List, [], ◌∷◌, ◌++◌, length, sum, Some, None, ⊤}
 use Rattle.bracket_rules.specs.declared.TheConstants.{MOST_PAIRS}
 use Rattle.bracket_rules.specs.Rows.{Row}
@@ -13,9 +13,9 @@ use Rattle.bracket_nodes.specs.declared.parser.Stop.TheVariants.{AtEnd, AtClosin
 use Rattle.bracket_nodes.specs.declared.parser.Taken.{Taken}
 use Rattle.bracket_nodes.specs.declared.parser.Taken.TheVariants.{One, Last, Nothing}
 
--- The lines of a text that a source reads: their contents, the numbers of those that were asked for, in order, and of
--- those that it has yet to ask for, and how many it says that it asked for. The last field tells proofs by which borrows
--- it reads.
+-- The lines of a text that a source reads: their contents, the numbers of those asked for, in order, the numbers of
+-- those still to ask for, and the count of lines asked for that it reports. The last field gives proofs the borrows
+-- by which it reads.
 pub record Asking : Type 0 where
   pub contents : List (List ℕ)
   pub asked : List ℕ
@@ -23,8 +23,8 @@ pub record Asking : Type 0 where
   pub count : ℕ
   pub borrows : List ℕ
 
--- The rows from here to the end of the text, and what the leaves of each line may weigh: of what is left of the line
--- that is read, and of each line after it. Some of the lines may have to be asked for.
+-- The rows from here to the end of the text, and bounds for the weight of the leaves in each line: in the rest of the
+-- current line, and in each line after it. The source may still have to ask for some of the lines.
 pub record Ahead : Type 0 where
   pub rows : List Row
   pub line : ℕ
@@ -34,7 +34,7 @@ pub record Ahead : Type 0 where
 abbrev pub weights_ahead : Ahead → List ℕ
 weights_ahead a = a.line ∷ a.later
 
--- what all of these lines may weigh together
+-- the sum of the bounds for all these lines
 unfoldable pub weight_ahead : Ahead → ℕ
 weight_ahead a = sum (weights_ahead a)
 
@@ -44,7 +44,7 @@ weight_ahead a = sum (weights_ahead a)
 abbrev pub asks_nothing : Asking
 asks_nothing = record { contents = []; asked = []; left = []; count = 0; borrows = [] }
 
--- what is asked for is taken from the front of what is left
+-- the lines asked for are taken from the front of those left
 pub record AsksOn (old new : Asking) : Type 0 where
   pub contents : new.contents ≡ old.contents
   pub asked : new.asked ++ new.left ≡ old.asked ++ old.left
@@ -53,7 +53,7 @@ pub record AsksOn (old new : Asking) : Type 0 where
 
 -- ---- what a source gives
 
--- a node that may stand here, where brackets of these kinds are open, so many at once
+-- a node that may be used here, where `level` brackets are open, of the kinds `kinds`
 pub record GivesNode (old new : Ahead) (kinds level : ℕ) (t : Tree) : Type 0 where
   pub tree : IsTree t
   pub some : is_nothing t ≡ false
@@ -69,13 +69,13 @@ pub record GivesBracket (old new : Ahead) (kind width : ℕ) (opening : Bool) : 
   pub weighs : AreCovered (glue_weights (width ∷ []) (weights_ahead new)) (weights_ahead old)
   pub rest : HasRow new.rows
 
--- neither a unit nor a line is left, and none is yet to be asked for
+-- no unit and no line is left, and none is still to be asked for
 pub record IsOver (a : Ahead) : Type 0 where
   pub empty : a.rows ≡ empty_row ∷ []
   pub last : a.later ≡ []
   pub asked : a.asking.left ≡ []
 
--- the source came to the end, and took nothing from the text
+-- the source reached the end, and took nothing from the text
 pub record Ends (old new : Ahead) : Type 0 where
   pub over : IsOver new
   pub rows : old.rows ≡ new.rows
@@ -88,7 +88,7 @@ Comes old new kinds level (Bracket kind width opening) = GivesBracket old new ki
 
 -- ---- what is parsed
 
--- the rows after a list that stopped so: a closing bracket that stopped it has been taken already
+-- the rows after a list with this stop: a closing bracket that ended it has been taken already
 abbrev pub rows_after : Stop → Ahead → List Row
 rows_after AtEnd new = new.rows
 rows_after (AtClosing kind width) new = glue (bracket_row kind width false) new.rows
@@ -105,13 +105,13 @@ pub record IsClosing (kinds kind width : ℕ) : Type 0 where
   pub has_kind : kind < MOST_PAIRS
   pub wide : 0 < width
 
--- a list stops where the text ends, or at a closing bracket of a kind that is open
+-- a list stops at the end of the text, or at a closing bracket of an open kind
 abbrev pub IsStop : ℕ → Ahead → Stop → Type 0
 IsStop kinds new AtEnd = IsOver new
 IsStop kinds new (AtClosing kind width) = IsClosing kinds kind width
 
--- The tree is the list of what stands before the stop. Its lines weigh what was to be taken of them, and so does all of it
--- together.
+-- The tree is the list up to the stop. The weight of its lines is within the bounds taken for them, and its total
+-- weight within the bounds for all.
 pub record Listed (old new : Ahead) (kinds level : ℕ) (t : Tree) (stop : Stop) : Type 0 where
   pub tells : Tells kinds level old.rows (rows_after stop new) (items t)
   pub stops : IsStop kinds new stop
@@ -119,7 +119,7 @@ pub record Listed (old new : Ahead) (kinds level : ℕ) (t : Tree) (stop : Stop)
   pub together : weight t + (stop_width stop + weight_ahead new) ≤ weight_ahead old
   pub rest : HasRow new.rows
 
--- the node is what stands between
+-- the node is the parse of the rows between
 pub record Parsed (old new : Ahead) (kinds level : ℕ) (t : Tree) : Type 0 where
   pub tells : Tells kinds level old.rows new.rows (items t)
   pub some : 0 < weight t
@@ -132,11 +132,11 @@ Takes old new kinds level (One node) = Parsed old new kinds level node
 Takes old new kinds level (Last node stop) = Listed old new kinds level node stop
 Takes old new kinds level (Nothing stop) = Listed old new kinds level nothing stop
 
--- a closing bracket stops the list, where its kind is open, or stands alone
+-- a closing bracket ends the list if its kind is open; else it is an unexpected one
 abbrev pub closing_taken : ℕ → ℕ → ℕ → Taken
 closing_taken kinds kind width = if has_kind kinds kind then Nothing (AtClosing kind width) else One (stray kind width)
 
--- the pair of an opening bracket and the list after it: a bracket of another kind that stopped the list stops this one too
+-- the pair of an opening bracket and the list after it; a stop that is not its closing bracket ends the outer list too
 abbrev pub pair_taken : ℕ → ℕ → Tree → Stop → Taken
 pair_taken kind width inside AtEnd = Last (pair kind width inside None) AtEnd
 pair_taken kind width inside (AtClosing other closing) =
@@ -146,7 +146,7 @@ abbrev pub HasWidth : Stop → Type 0
 HasWidth AtEnd = ⊤
 HasWidth (AtClosing kind width) = 0 < width
 
--- what has been read of a source, as the nodes of a list
+-- what has been read from a source, as the nodes of a list
 pub record Reads (start now : Ahead) (kinds level : ℕ) (nodes : List Tree) (w : ℕ) : Type 0 where
   pub tells : Tells kinds level start.rows now.rows nodes
   pub weighs : AreCovered (glue_weights (all_weights nodes) (weights_ahead now)) (weights_ahead start)

@@ -6,7 +6,8 @@ use Rattle.std.specs.Option.{option_map}
 use Rattle.bracket_rules.specs.Parse.{Spot, Judged, entries_of, entries_between, partner_at}
 use Rattle.bracket_tree_rules.specs.Tree.{Tree, text, pair, stray, capped, nothing, two, three, weight, nesting, inside_end, tree_entries, tree_partner, IsTree}
 
--- the level after entries that end at this one, counted from the level of their tree, or the level before them
+-- the level after entries with this last level, which is relative to the level of their tree; without entries, the
+-- level before them
 abbrev pub level_from : ℕ → ℕ → Option ℕ → ℕ
 level_from level before None = before
 level_from level before (Some last) = level + last
@@ -14,13 +15,13 @@ level_from level before (Some last) = level + last
 abbrev pub place_and_len : Spot → Length × ℕ
 place_and_len s = (s.place, s.len)
 
--- the places and levels of a tree that starts here, at this level, fit 64 bits
+-- the places and levels of a tree at this start and level fit 64 bits
 pub record HasRoom (start : Length) (level : ℕ) (t : Tree) : Type 0 where
   pub tree : IsTree t
   pub places : start.lines + start.columns + weight t < 2 ^ 64
   pub levels : level + nesting t < 2 ^ 64
 
--- the entries of these that start in these lines
+-- those of the entries that start in the lines `from` to `to`
 abbrev pub chosen : ℕ → ℕ → List Judged → List Entry
 chosen from to js = entries_between from to (entries_of js)
 
@@ -29,7 +30,7 @@ entry_if chosen e = if chosen then e ∷ [] else []
 
 -- ---- partners
 
--- No pair of the tree, but those of its parts, has a bracket at place q whose partner stands there.
+-- Place q is not the start of a bracket of a closed pair that is the tree itself, not a part of it.
 abbrev pub NoOwnPartnerAt : Length → Tree → Length → Type 0
 NoOwnPartnerAt p (text l) q = ⊤
 NoOwnPartnerAt p (pair kind open_width inside None) q = ⊤
@@ -40,7 +41,7 @@ NoOwnPartnerAt p nothing q = ⊤
 NoOwnPartnerAt p (two a b) q = ⊤
 NoOwnPartnerAt p (three a b c) q = ⊤
 
--- what the other bracket of a pair is at place q in the tree that starts at place r is what it is there in the whole
+-- the partner found at place q in the tree that starts at place r is also the one found there in the whole tree
 abbrev pub ShowsPartner : Tree → Length → Tree → Length → Type 0
 ShowsPartner whole r t q = (found : Option (Length × ℕ))
     → ((level : ℕ) → option_map place_and_len (partner_at q (tree_entries r level t)) ≡ found)

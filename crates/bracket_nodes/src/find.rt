@@ -1,4 +1,5 @@
-// What a reader asks of a node of an old tree: whether it may be taken, and whether a bracket of it starts here.
+// Queries of a reader on a node of an old tree: whether it may be taken at a place, and which bracket of its own
+// starts there.
 ghost use Rattle.std.specs.Prelude.{◌≡◌, ◌≢◌, ◌+◌, ◌<◌, ◌≤◌, ◌^◌, ◌⊎◌, ◌↔◌, Some, None, IsTrue, IfOk, IfSome, IfNone};
 ghost use Rattle.bracket_tree_rules.specs.Tree.{tree_length, IsTree};
 ghost use Rattle.bracket_tree_rules.specs.Places.{touched, MayBeTaken};
@@ -25,7 +26,7 @@ pub struct NodeRef<'a> {
 }
 
 impl<'a> NodeRef<'a> {
-    /// The same tree, shared.
+    /// Returns the same tree, shared.
     pub fn share(&self) -> Result<Node, AllocError>
         ensures { IfOk result (λ node. node ≡ node_of self.now) }
     {
@@ -33,7 +34,7 @@ impl<'a> NodeRef<'a> {
         Ok(Node { link })
     }
 
-    /// The node's length.
+    /// Returns the node's length.
     pub fn length(&self) -> Length
         ensures { result ≡ tree_length (node_of self.now) }
     {
@@ -41,8 +42,7 @@ impl<'a> NodeRef<'a> {
     }
 }
 
-// What a reader has room for: nodes of so many lines, where brackets of these kinds are open, so
-// many at once.
+// The conditions at a place: the number of lines left, the kinds of the open brackets, and the number of open brackets.
 #[derive(Clone, Copy)]
 pub(crate) struct Room {
     pub lines: u64,
@@ -50,7 +50,7 @@ pub(crate) struct Room {
     pub level: u64,
 }
 
-// Whether the node starts at the place, and may be taken there.
+// Whether the node starts at the place and may be taken there.
 pub(crate) fn is_taken_here(here: &Placed, place: &Length, room: &Room) -> bool
     requires { IsSound (seen_tree here.now.node) }
     ensures { IsTrue result ↔ IsTakenHere here.now.start (seen_tree here.now.node) place.now
@@ -75,7 +75,7 @@ fn may_be_taken(node: &Seen, room: &Room) -> bool
         && kept.missing.is_apart_from(room.opened)
 }
 
-// Whether a text of this length touches no more lines.
+// Whether a text of this length touches at most `lines` lines.
 fn is_within(length: &Length, lines: u64) -> bool
     ensures { IsTrue result ↔ (touched length.now ≤ lines) }
 {
@@ -86,7 +86,7 @@ fn is_within(length: &Length, lines: u64) -> bool
     }
 }
 
-// Whether brackets inside one another may open at this level, so many.
+// Whether brackets nested `nesting` deep may open at `level`: together at most `MOST_OPEN`.
 fn has_room(level: u64, nesting: u64) -> bool
     ensures { IsTrue result ↔ (level + nesting ≤ MOST_OPEN) }
 {
@@ -94,7 +94,7 @@ fn has_room(level: u64, nesting: u64) -> bool
 }
 
 #[tactic(auto, using(bracket_tree_rules::proofs::BracketAt::own_brackets))]
-// The bracket at the place that stands in the node and in no part of it.
+// Returns the bracket at the place that belongs to the node itself and not to a part of it; None if there is none.
 pub(crate) fn bracket_here(here: &Placed, place: &Length) -> Option<Token>
     requires tree { IsTree (seen_tree here.now.node) }
     requires fits { reach here.now < 2 ^ 64 }
@@ -121,7 +121,8 @@ pub(crate) fn bracket_here(here: &Placed, place: &Length) -> Option<Token>
     }
 }
 
-// The width of the closing bracket, where there is one and it starts at the place.
+// Returns the width of the closing bracket if there is one and it starts at the place, which is when `ends` is the
+// place.
 fn closing_at(closing: Option<u64>, ends: &Length, place: &Length) -> Option<u64>
     ensures some { IfSome result (λ width. (closing ≡ Some width) × (ends.now ≡ place.now)) }
     ensures none { IfNone result ((closing ≡ None) ⊎ (ends.now ≢ place.now)) }
@@ -129,7 +130,7 @@ fn closing_at(closing: Option<u64>, ends: &Length, place: &Length) -> Option<u64
     closing.filter(|_| ends == place)
 }
 
-// A bracket at this place, as one of its line.
+// Returns the token, in its line, of a bracket at this place.
 fn token_at(place: &Length, len: u64, kind: u64, opening: bool) -> Token
     ensures { result ≡ token_at place.now len kind opening }
 {

@@ -1,4 +1,4 @@
-// Many nodes joined to one list.
+// Joins many nodes to one list.
 ghost use Rattle.std.specs.Prelude.{◌≡◌, ℕ, ◌+◌, ◌<◌, ◌^◌, ◌++◌, [], IfOk, IfSome, IfNone, OnOk};
 ghost use Rattle.bracket_tree_rules.specs.Items.{all_length, all_tokens, all_entries};
 ghost use Rattle.bracket_tree_rules.specs.Tree.{weight, items, tree_length, tree_tokens, tree_entries, all_items, all_weight, nothing};
@@ -12,8 +12,8 @@ use crate::node::{Link, Node};
 use std::alloc::{AllocError, Global};
 use std::mem;
 
-/// The list of the nodes, in order, as a (2,3)-tree. Of no nodes it is the empty list. Wherever it stands, it shows what
-/// the nodes show there one after another.
+/// Returns the list of the nodes, in order, as a (2,3)-tree; without nodes, the empty list. At any place and level it
+/// shows what the nodes show there one after another.
 pub fn concat(alloc: Global, nodes: Vec<Node>) -> Result<Node, AllocError>
     requires fits { all_weight nodes.items < 2 ^ 64 }
     ensures in_order { IfOk result (λ list. items list ≡ all_items nodes.items) }
@@ -31,12 +31,12 @@ pub fn concat(alloc: Global, nodes: Vec<Node>) -> Result<Node, AllocError>
     joiner.finish(alloc)
 }
 
-// Nodes that are being joined: lists, none of which is higher than the one before it, so that each node is joined few
-// times, and in threes where that may be.
+// Nodes being joined, as lists of which none is higher than the one before it. So each node is joined few times, and
+// three lists are joined at once where possible.
 #[derive(Drop)]
 pub(crate) struct Joiner {
     pub lists: Vec<Link>,
-    // Nothing, or what stands behind the lists: so one list takes no room among them.
+    // The last list, or nothing. Kept apart, so that a single list takes no room in `lists`.
     pub last: Link,
 }
 
@@ -51,7 +51,7 @@ impl Joiner {
         }
     }
 
-    /// Puts a node after the others.
+    /// Appends a node.
     #[inline(never)]
     pub fn push(&mut self, alloc: Global, node: Node) -> Result<(), AllocError>
         requires fits { joined_weight self.old + weight node < 2 ^ 64 }
@@ -77,7 +77,8 @@ impl Joiner {
         Ok(())
     }
 
-    // What is done with a list behind the last one, which was taken off.
+    // Decides how to add `list` after `top`, the last list, which was removed. For `JoinThree` the list before `top`
+    // is removed too.
     fn step(&mut self, top: &Link, list: &Link) -> Step
         ensures { IsStep self.old self.new result }
     {
@@ -99,7 +100,7 @@ impl Joiner {
         }
     }
 
-    // Puts a list after the others.
+    // Appends a list.
     fn put(&mut self, list: Link) -> Result<(), AllocError>
         ensures { OnOk result (Takes self.old (link_tree list) self.new) }
     {
@@ -112,7 +113,7 @@ impl Joiner {
         Ok(())
     }
 
-    // Takes the last list off.
+    // Removes and returns the last list; None if there is none.
     fn pop(&mut self) -> Option<Link>
         ensures some { IfSome result (λ list. Takes self.new (link_tree list) self.old) }
         ensures fewer { IfSome result (λ _. count self.new < count self.old) }
@@ -126,7 +127,7 @@ impl Joiner {
         Some(last)
     }
 
-    /// The list of all nodes.
+    /// Returns the list of all nodes.
     #[inline(never)]
     pub fn finish(mut self, alloc: Global) -> Result<Node, AllocError>
         requires fits { joined_weight self < 2 ^ 64 }
@@ -141,14 +142,14 @@ impl Joiner {
     }
 }
 
-// What is done with a list behind the last one.
+// How a list is added after the last one.
 #[derive(Drop)]
 enum Step {
-    // It stays behind it.
+    // It is appended as it is.
     Stay,
-    // The two are joined.
+    // It is joined to the last one.
     Join,
-    // The two are joined to the one before them.
+    // It is joined to the last one and the list before that.
     JoinThree(Link),
 }
 

@@ -12,15 +12,15 @@ pub(crate) struct Kept {
     pub missing: Kinds,
     pub closed: bool,
     pub capped: bool,
-    // Each step down a list doubles its leaves, so none that fits 64 bits is higher than 64.
+    // Each level of a list at least doubles its leaves, so no list whose leaves fit 64 bits is higher than 64.
     pub height: u8,
     pub highest: u8,
     pub nesting: u64,
-    // The level after the last entry, counted from the level of the node.
+    // The level after the last entry, relative to the level of the node; None without entries.
     pub last_level: Option<u64>,
 }
 
-// What is kept of a leaf whose level after its last entry is this one.
+// Returns what is kept of a leaf; `last_level` is the level after its last entry.
 pub(crate) fn leaf_kept(length: Length, missing: Kinds, last_level: Option<u64>) -> Kept
     ensures { result ≡ leaf_kept length missing last_level }
 {
@@ -36,7 +36,7 @@ pub(crate) fn leaf_kept(length: Length, missing: Kinds, last_level: Option<u64>)
     }
 }
 
-// What is kept of a list of this height with these two parts.
+// Returns what is kept of a list of height `height` with the parts `a` and `b`.
 pub(crate) fn both(a: Kept, b: Kept, height: u8) -> Kept
     requires { a.length.lines + a.length.columns + (b.length.lines + b.length.columns) < 2 ^ 64 }
     ensures { result ≡ both_of a b height }
@@ -59,7 +59,7 @@ fn later(first: Option<u64>, second: Option<u64>) -> Option<u64>
     second.or(first)
 }
 
-/// Some columns of a line.
+/// Returns the length of `columns` columns within a line.
 pub(crate) fn wide(columns: u64) -> Length
     ensures { result ≡ wide columns }
 {

@@ -8,7 +8,7 @@ use std::marker::Model;
 /// A set of kinds of brackets.
 #[derive(Clone, Copy, PartialEq, Eq, Debug)]
 pub struct Kinds {
-    // Bit k is set where kind k is in the set.
+    // Bit k is set if kind k is in the set.
     bits: u64,
 }
 
@@ -23,14 +23,14 @@ impl Model for Kinds {
 }
 
 impl Kinds {
-    /// The set of no kinds.
+    /// Returns the empty set.
     pub fn none() -> Kinds
         ensures { result ≡ 0 }
     {
         Kinds { bits: 0 }
     }
 
-    /// The set of this kind alone.
+    /// Returns the set of this kind alone.
     pub fn one(kind: u64) -> Kinds
         requires { kind < MOST_PAIRS }
         ensures { result ≡ 2 ^ kind }
@@ -45,7 +45,7 @@ impl Kinds {
         kind < u64::BITS as u64 && (bits >> kind) & 1 == 1
     }
 
-    /// The set with this kind too.
+    /// Returns the set with this kind added.
     pub fn with(self, kind: u64) -> Kinds
         requires { kind < MOST_PAIRS }
         ensures { result ≡ with_kind self kind }
@@ -53,7 +53,7 @@ impl Kinds {
         self.union(Kinds::one(kind))
     }
 
-    /// The kinds of either set.
+    /// Returns the union of both sets.
     pub fn union(self, other: Kinds) -> Kinds
         ensures { result ≡ bit_or self other }
     {
@@ -61,7 +61,7 @@ impl Kinds {
             bits: self.bits | other.bits,
         }
     }
-    /// Whether no kind is in both sets.
+    /// Whether the two sets are disjoint.
     pub(crate) fn is_apart_from(self, other: Kinds) -> bool
         ensures { IsTrue result
             ↔ ((k : ℕ) → has_kind self k ≡ true → has_kind other k ≡ false) }

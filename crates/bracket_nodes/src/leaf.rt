@@ -1,4 +1,4 @@
-// Nodes that take no memory of their own: they stand in the link that leads to them.
+// Nodes without memory of their own: they are stored in the link to them.
 ghost use Rattle.std.specs.Prelude.{◌≡◌, ◌+◌, ◌<◌, ◌≤◌, ◌^◌, IfSome, IsTrue};
 ghost use Rattle.bracket_tree_rules.specs.Tree.{text, pair, stray, capped, nothing, two, tree_length, height, weight, is_nothing, IsGap, IsPair, IsLone};
 ghost use Rattle.bracket_nodes.specs.Forms.{form_tree, breaks, short_inside, short_tree, IsSound};
@@ -10,29 +10,29 @@ use bracket_rules::MOST_PAIRS;
 use std::marker::Model;
 use text_lengths::Length;
 
-/// The break that ends a line.
+/// The length of a line break.
 pub(crate) const LINE_BREAK: Length = Length {
     lines: 1,
     columns: 0,
 };
 
-/// How high the list of breaks is at most that takes no memory of its own: a higher one is read as this one.
+/// The greatest height of a list of line breaks without memory of its own; a higher one is read as this height.
 pub(crate) const HIGHEST_BREAKS: u8 = 63;
 
-/// What such a node is.
+/// The form of a node without memory of its own.
 #[derive(Clone, Copy, Drop)]
 pub(crate) enum Form {
     Nothing,
-    // Some columns of a line.
+    // A text of this many columns of a line.
     Text(u16),
-    // Line breaks, as a list of this height in which each list has two parts.
+    // Line breaks, as a list of this height in which every list has two parts.
     Breaks(u8),
     Stray(u8, u16),
     Capped(u8, u16),
     Pair(ShortPair),
 }
 
-/// A pair round some columns of a line, or round nothing.
+/// A pair that contains columns of one line, or nothing.
 #[derive(Clone, Copy, Drop)]
 pub(crate) struct ShortPair {
     pub inside: u16,
@@ -62,7 +62,7 @@ impl Model for Leaf {
 }
 
 impl Leaf {
-    /// The node of this form.
+    /// Makes the node of this form.
     pub fn new(form: Form) -> Leaf
         requires { IsSound (form_tree form) }
         ensures { result ≡ form }
@@ -70,7 +70,7 @@ impl Leaf {
         Leaf { form }
     }
 
-    /// What it is.
+    /// Returns the form.
     pub fn form(self) -> Form
         ensures form { result ≡ self }
         ensures sound { IsSound (form_tree self) }
@@ -78,7 +78,7 @@ impl Leaf {
         self.form
     }
 
-    /// The list of no nodes.
+    /// Returns the empty list.
     pub fn nothing() -> Leaf
         ensures { form_tree result ≡ nothing }
     {
@@ -87,7 +87,7 @@ impl Leaf {
         }
     }
 
-    /// A text of this length, where it fits.
+    /// Returns a text of this length, if it fits a leaf.
     pub fn text(length: Length) -> Option<Leaf>
         requires { IsGap length }
         ensures { IfSome result (λ leaf. form_tree leaf ≡ text length) }
@@ -103,7 +103,7 @@ impl Leaf {
         })
     }
 
-    /// An unexpected closing bracket, where it fits.
+    /// Returns an unexpected closing bracket, if it fits a leaf.
     pub fn stray(kind: u64, width: u64) -> Option<Leaf>
         requires { IsLone kind width }
         ensures { IfSome result (λ leaf. form_tree leaf ≡ stray kind width) }
@@ -114,7 +114,7 @@ impl Leaf {
         })
     }
 
-    /// An opening bracket beyond the most that may be open, where it fits.
+    /// Returns an opening bracket beyond the limit on open brackets, if it fits a leaf.
     pub fn capped(kind: u64, width: u64) -> Option<Leaf>
         requires { IsLone kind width }
         ensures { IfSome result (λ leaf. form_tree leaf ≡ capped kind width) }
@@ -125,7 +125,7 @@ impl Leaf {
         })
     }
 
-    /// A pair round this node, where it fits.
+    /// Returns a pair that contains this node, if it fits a leaf.
     pub fn pair(self, kind: u64, opening: u64, closing: Option<u64>) -> Option<Leaf>
         requires { IsPair kind opening (form_tree self) closing }
         ensures { IfSome result (λ leaf. form_tree leaf
@@ -144,7 +144,7 @@ impl Leaf {
         })
     }
 
-    // How many columns it has, where it is a text in one line or nothing.
+    // Returns the number of columns of a text in one line, or 0 for the empty list; None for any other node.
     fn columns(self) -> Option<u16>
         ensures { IfSome result (λ columns. short_inside columns ≡ form_tree self) }
     {
@@ -155,7 +155,7 @@ impl Leaf {
         }
     }
 
-    /// The list of the two, where it fits.
+    /// Returns the list of the two nodes, if it fits a leaf.
     pub fn two(self, other: Leaf) -> Option<Leaf>
         requires { weight (form_tree self) + weight (form_tree other) < 2 ^ 64 }
         ensures { IfSome result (λ leaf. form_tree leaf
@@ -170,14 +170,14 @@ impl Leaf {
         }
     }
 
-    /// Whether the list of the two fits.
+    /// Whether the list of the two nodes fits a leaf.
     pub fn goes_with(self, other: Leaf) -> bool {
         matches!((self.form, other.form), (Form::Breaks(a), Form::Breaks(b)) if a == b && a < HIGHEST_BREAKS)
     }
 }
 
 impl Form {
-    /// What is kept of the node.
+    /// Returns what is kept of the node.
     pub fn kept(self) -> Kept
         requires { IsSound (form_tree self) }
         ensures { Keeps (form_tree self) result }
@@ -198,7 +198,7 @@ impl Form {
     }
 
     #[tactic(auto, using(crate::proofs::Runs::breaks_some))]
-    /// Whether it is the list of no nodes.
+    /// Whether the node is the empty list.
     pub fn is_nothing(self) -> bool
         ensures { result ≡ is_nothing (form_tree self) }
     {
@@ -213,7 +213,7 @@ impl Form {
     }
 
     #[tactic(auto, using(crate::proofs::Runs::breaks_height))]
-    /// The height of a list of several nodes, and else 0.
+    /// Returns the height of a list of several nodes, else 0.
     pub fn height(self) -> u8
         ensures { result ≡ height (form_tree self) }
     {
@@ -227,7 +227,7 @@ impl Form {
         }
     }
 
-    /// The node's length, by the rules of nodes or not.
+    /// Returns the node's length, also if the node breaks the rules of nodes.
     pub fn length(self) -> Length
         ensures { result ≡ tree_length (form_tree self) }
     {
@@ -257,7 +257,7 @@ impl Form {
 }
 
 impl ShortPair {
-    /// What stands in the pair.
+    /// Returns the content of the pair.
     pub fn inside(&self) -> Form
         ensures { form_tree result ≡ short_inside self.now.inside }
     {
@@ -286,7 +286,7 @@ impl ShortPair {
         }
     }
 
-    /// The width of the closing bracket.
+    /// Returns the width of the closing bracket, if there is one.
     pub fn closing(&self) -> Option<u64>
         ensures { result ≡ self.now.closing }
     {
@@ -332,7 +332,7 @@ fn short_pair_kept(pair: ShortPair) -> Kept
     }
 }
 
-// The number in 16 bits, where it fits.
+// Returns the number in 16 bits, if it fits.
 fn narrow(n: u64) -> Option<u16>
     ensures { IfSome result (λ m. m ≡ n) }
 {
@@ -342,7 +342,7 @@ fn narrow(n: u64) -> Option<u16>
     None
 }
 
-// The width in 8 bits, where it fits.
+// Returns the width in 8 bits, if it fits.
 fn narrow_width(width: u64) -> Option<u8>
     ensures { IfSome result (λ w. w ≡ width) }
 {

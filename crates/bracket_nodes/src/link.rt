@@ -1,4 +1,4 @@
-// What leads to a node, and a node that is borrowed.
+// Links to nodes, and borrowed nodes.
 ghost use Rattle.std.specs.Prelude.{◌≡◌, ◌+◌, ◌<◌, ◌≤◌, ◌^◌, IfOk};
 ghost use Rattle.text_lengths.specs.Length.{length_plus};
 ghost use Rattle.bracket_tree_rules.specs.Tree.{tree_length, height, is_nothing, weight, IsTree};
@@ -16,7 +16,7 @@ use std::rc::Rc;
 use text_lengths::Length;
 
 impl Link {
-    /// The same node, borrowed.
+    /// Returns the same node, borrowed.
     #[inline(always)]
     pub fn seen(&self) -> Seen<'_>
         ensures same { seen_tree result ≡ link_tree self.now }
@@ -36,7 +36,7 @@ impl Link {
         matches!(self, Link::Here(_))
     }
 
-    /// What is kept of the node.
+    /// Returns what is kept of the node.
     pub fn kept(&self) -> Kept
         ensures keeps { Keeps (link_tree self.now) result }
         ensures bounded { IsBounded (weight (link_tree self.now)) result }
@@ -44,14 +44,14 @@ impl Link {
         self.seen().kept()
     }
 
-    /// The node's length.
+    /// Returns the node's length.
     pub fn length(&self) -> Length
         ensures { result ≡ tree_length (link_tree self.now) }
     {
         self.seen().length()
     }
 
-    /// Where the node ends, where it starts here.
+    /// Returns the end of the node if it starts at `start`.
     pub fn end(&self, start: &Length) -> Length
         requires { start.now.lines + start.now.columns + weight (link_tree self.now) < 2 ^ 64 }
         ensures end { result ≡ length_plus start.now (tree_length (link_tree self.now)) }
@@ -61,7 +61,7 @@ impl Link {
         self.seen().end(start)
     }
 
-    /// The height of a list of several nodes, and else 0.
+    /// Returns the height of a list of several nodes, else 0.
     pub fn height(&self) -> u8
         ensures { result ≡ height (link_tree self.now) }
     {
@@ -75,18 +75,18 @@ impl Link {
     }
 }
 
-/// A node that is borrowed from a tree: one with memory of its own, or a copy of one without.
+/// A node borrowed from a tree: a reference to a node with memory of its own, or a copy of one without.
 #[derive(Clone, Copy)]
 pub(crate) enum Seen<'a> {
     Here(Form),
     Shared(&'a Rc<Inner>),
 }
 
-/// What a node is, with its parts.
+/// The form of a node, with its parts.
 #[derive(Clone, Copy)]
 pub(crate) enum Shown<'a> {
     Text(Length),
-    // The kind, the width of the opening bracket, what is inside, the width of the closing bracket.
+    // The kind, the width of the opening bracket, the content, and the width of the closing bracket, if there is one.
     Pair(u64, u64, Seen<'a>, Option<u64>),
     Stray(u64, u64),
     Capped(u64, u64),
@@ -96,7 +96,7 @@ pub(crate) enum Shown<'a> {
 }
 
 impl<'a> Seen<'a> {
-    /// The node, shared.
+    /// Returns the same node, shared.
     pub fn share(&self) -> Result<Link, AllocError>
         requires { IsSound (seen_tree self.now) }
         ensures { IfOk result (λ link. link_tree link ≡ seen_tree self.now) }
@@ -107,8 +107,8 @@ impl<'a> Seen<'a> {
         }
     }
 
-    /// The node, shared, where nothing is known of it: a copy of a leaf is looked at. All that are met are as they should
-    /// be, so the error is want of memory, as in `share`.
+    /// Returns the same node, shared, without a precondition: a copied leaf is checked. Every node in use is sound,
+    /// so the only error is lack of memory, as in `share`.
     pub fn share_checked(&self) -> Result<Link, AllocError>
         ensures { IfOk result (λ link. link_tree link ≡ seen_tree self.now) }
     {
@@ -120,7 +120,7 @@ impl<'a> Seen<'a> {
     }
 
     #[tactic(auto, using(bracket_tree_rules::proofs::Weights::length_within))]
-    /// The node's length.
+    /// Returns the node's length.
     pub fn length(&self) -> Length
         ensures length { result ≡ tree_length (seen_tree self.now) }
         ensures within { result.lines + result.columns ≤ weight (seen_tree self.now) }
@@ -131,7 +131,7 @@ impl<'a> Seen<'a> {
         }
     }
 
-    /// What is kept of the node.
+    /// Returns what is kept of the node.
     pub fn kept(&self) -> Kept
         requires { IsSound (seen_tree self.now) }
         ensures keeps { Keeps (seen_tree self.now) result }
@@ -143,7 +143,7 @@ impl<'a> Seen<'a> {
         }
     }
 
-    /// The height of a list of several nodes, and else 0.
+    /// Returns the height of a list of several nodes, else 0.
     pub fn height(&self) -> u8
         ensures { result ≡ height (seen_tree self.now) }
     {
@@ -159,14 +159,14 @@ impl<'a> Seen<'a> {
         match *self {
             Seen::Here(form) => form.is_nothing(),
             Seen::Shared(inner) => {
-                // No block is made for it.
+                // The empty list never has a block of its own.
                 let _kept = inner.kept();
                 false
             }
         }
     }
 
-    /// Where the node ends, where it starts here.
+    /// Returns the end of the node if it starts at `start`.
     pub fn end(&self, start: &Length) -> Length
         requires tree { IsTree (seen_tree self.now) }
         requires fits { start.now.lines + start.now.columns + weight (seen_tree self.now) < 2 ^ 64 }
@@ -177,7 +177,8 @@ impl<'a> Seen<'a> {
         start.plus(&self.length())
     }
 
-    /// What the node is. Each caller takes it apart at once, so that it is not made where this is part of the caller.
+    /// Returns the form of the node, with its parts. Inlined, so that it need not be built: each caller takes it
+    /// apart at once.
     #[inline(always)]
     pub fn shown(&self) -> Shown<'a>
         ensures { shown_tree result ≡ seen_tree self.now }

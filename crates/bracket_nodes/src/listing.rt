@@ -1,4 +1,4 @@
-// The entries of some lines: a walk down to the parts that reach these lines.
+// Lists the entries of a range of lines: walks down to the parts that reach these lines.
 ghost use Rattle.std.specs.Prelude.{◌≡◌, ℕ, ◌+◌, ◌*◌, ◌<◌, ◌≤◌, ◌++◌, length, take, true, All, OnOk, OnErr};
 ghost use Rattle.bracket_rules.specs.Parse.{bracket, Spot, is_between, entries_between, entries_of, judged_opening};
 ghost use Rattle.bracket_tree_rules.specs.Tree.{tree_story, closing_entries, closing_spot};
@@ -16,7 +16,7 @@ use bracket_rules::{Entry, Status};
 use std::alloc::AllocError;
 use text_lengths::Length;
 
-// Lines from one to another, both counted from 0 and both included.
+// The lines `from` to `to`, both counted from 0 and both included.
 #[derive(Clone, Copy)]
 struct LineRange {
     from: u64,
@@ -33,8 +33,8 @@ impl LineRange {
 }
 
 impl Node {
-    /// Appends the entries that start in the lines `from` to `to` of the tree, both counted from 0
-    /// and both included, in the order of the text. On want of memory `out` is unchanged.
+    /// Appends the entries that start in the lines `from` to `to` of the tree, both counted from 0 and both included,
+    /// in text order. If memory runs out, `out` is unchanged.
     pub fn entries(&self, from: u64, to: u64, out: &mut Vec<Entry>) -> Result<(), AllocError>
         ensures ok { OnOk result (out.new.items
             ≡ out.old.items ++ entries_between from to (entries_of (tree_story self.now))) }
@@ -49,21 +49,21 @@ impl Node {
     }
 }
 
-// What is left to list: a part of the tree, at its level, or one entry.
+// Work left for a listing: a part of the tree with its level, or one entry.
 #[derive(Clone, Copy)]
 enum Left<'a> {
     Part(Placed<'a>, u64),
     One(Entry),
 }
 
-// Appends the entries of a whole tree; on want of memory only some.
+// Appends the entries of a whole tree that start in these lines; if memory runs out, only some of them.
 fn push_entries(whole: Placed<'_>, lines: LineRange, out: &mut Vec<Entry>) -> Result<(), AllocError>
     requires { HasRoom whole.start 0 (seen_tree whole.node) }
     ensures ok { OnOk result (out.new.items
         ≡ out.old.items ++ chosen lines.from lines.to (entries_at whole.entry 0)) }
     ensures err { OnErr result (take (length out.old.items) out.new.items ≡ out.old.items) }
 {
-    // The last one is listed first.
+    // A stack: the last element is listed next.
     let mut left = Vec::new(*out.allocator());
     left.push(Left::Part(whole, 0))?;
     while let Some(next) = left.pop() {
@@ -76,7 +76,8 @@ fn push_entries(whole: Placed<'_>, lines: LineRange, out: &mut Vec<Entry>) -> Re
 }
 
 #[tactic(auto, using(crate::proofs::EntryWalk::entry_steps))]
-// Appends the first entry of a part, and leaves the others.
+// Appends the part's own first entry, if it starts in these lines, and pushes the rest of the part to `left`. A part
+// outside these lines is skipped.
 fn push_first<'a>(
     here: Placed<'a>,
     level: u64,
@@ -134,7 +135,7 @@ fn push_first<'a>(
 }
 
 #[tactic(auto, using(crate::proofs::ListedEntries::pushes))]
-// Leaves a part for later, before all that was left.
+// Pushes a part to `left`, to be listed next.
 fn leave<'a>(left: &mut Vec<Left<'a>>, here: Placed<'a>, level: u64) -> Result<(), AllocError>
     requires { HasRoom here.start level (seen_tree here.node) }
     ensures entries { OnOk result
@@ -148,7 +149,7 @@ fn leave<'a>(left: &mut Vec<Left<'a>>, here: Placed<'a>, level: u64) -> Result<(
 }
 
 #[tactic(auto, using(crate::proofs::ListedEntries::pushes))]
-// Leaves the closing bracket of a pair for later, where there is one.
+// Pushes the closing bracket of a pair to `left`, if there is one.
 fn leave_closing(
     left: &mut Vec<Left<'_>>,
     place: Length,

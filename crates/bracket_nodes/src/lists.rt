@@ -1,4 +1,4 @@
-// Lists as (2,3)-trees, and how two of them are joined.
+// Lists as (2,3)-trees, and how to join two of them.
 ghost use Rattle.std.specs.Prelude.{◌≡◌, ◌+◌, ◌<◌, ◌≤◌, ◌^◌, ◌++◌, false, IfOk, IsTrue, suc};
 ghost use Rattle.bracket_tree_rules.specs.Tree.{two, three, height, weight, is_nothing, IsEven, IsTree, items};
 ghost use Rattle.bracket_nodes.specs.Shapes.{link_tree};
@@ -11,7 +11,7 @@ use crate::node::{Inner, Link, Shape};
 use std::alloc::{AllocError, Global};
 use std::rc::Rc;
 
-// One list, or two of one height, side by side.
+// One list, or two neighbours of the same height.
 #[derive(Drop)]
 pub(crate) enum Siblings {
     One(Link),
@@ -48,7 +48,7 @@ pub(crate) fn three_of(alloc: Global, a: Link, b: Link, c: Link) -> Result<Link,
     Ok(Link::Shared(Rc::new(alloc, Inner { shape, kept })?))
 }
 
-// The lists a step higher that have the lists of both as their parts, in order.
+// Groups the lists of both, in order, as the parts of one or two lists one level higher.
 fn grouped(alloc: Global, first: Siblings, second: Siblings) -> Result<Siblings, AllocError>
     requires first { AreListsOf (sibling_height first) first }
     requires second { AreListsOf (sibling_height first) second }
@@ -72,7 +72,7 @@ fn grouped(alloc: Global, first: Siblings, second: Siblings) -> Result<Siblings,
     }
 }
 
-// The list with the nodes of `last`, which is no higher, after its own.
+// Returns `list` with the nodes of `last` appended, as one or two lists of its height. `last` is at most as high.
 fn append(alloc: Global, list: &Seen, last: Link) -> Result<Siblings, AllocError>
     requires lower { height (link_tree last) ≤ height (seen_tree list.now) }
     requires tree { IsTree (seen_tree list.now) }
@@ -101,7 +101,7 @@ fn append(alloc: Global, list: &Seen, last: Link) -> Result<Siblings, AllocError
     }
 }
 
-// The list with the nodes of `first`, which is no higher, before its own.
+// Returns `list` with the nodes of `first` prepended, as one or two lists of its height. `first` is at most as high.
 fn prepend(alloc: Global, first: Link, list: &Seen) -> Result<Siblings, AllocError>
     requires lower { height (link_tree first) ≤ height (seen_tree list.now) }
     requires first_some { is_nothing (link_tree first) ≡ false }
@@ -130,7 +130,7 @@ fn prepend(alloc: Global, first: Link, list: &Seen) -> Result<Siblings, AllocErr
     }
 }
 
-/// The list of the nodes of both, in order.
+/// Returns the list of the nodes of both, in order.
 pub(crate) fn join(alloc: Global, first: Link, second: Link) -> Result<Link, AllocError>
     requires fits { weight (link_tree first) + weight (link_tree second) < 2 ^ 64 }
     ensures { IfOk result (λ list. Joins (link_tree first) (link_tree second) (link_tree list)) }
@@ -152,7 +152,7 @@ pub(crate) fn join(alloc: Global, first: Link, second: Link) -> Result<Link, All
     }
 }
 
-/// The list of the nodes of all three, in order.
+/// Returns the list of the nodes of all three, in order.
 pub(crate) fn join_three(
     alloc: Global,
     first: Link,
@@ -171,14 +171,14 @@ pub(crate) fn join_three(
     join(alloc, first, rest)
 }
 
-// Whether the two may stand side by side in a list.
+// Whether the two may be parts of one list: equally high, and neither empty.
 fn are_even(a: &Link, b: &Link) -> bool
     ensures { IsTrue result → IsEven (link_tree a.now) (link_tree b.now) }
 {
     a.height() == b.height() && !a.is_nothing() && !b.is_nothing()
 }
 
-/// Whether both are line breaks of one height, whose list takes no memory.
+/// Whether both are line breaks of the same height whose list takes no memory of its own.
 pub(crate) fn are_breaks(a: &Link, b: &Link) -> bool {
     match (a, b) {
         (Link::Here(first), Link::Here(second)) => first.goes_with(*second),

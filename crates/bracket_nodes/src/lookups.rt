@@ -1,4 +1,4 @@
-// What stands at a place: walks down one path of the tree.
+// Looks up what is at a place: walks down one path of the tree.
 ghost use Rattle.std.specs.Prelude.{◌≡◌, ◌+◌, ◌<◌, ◌≤◌, ◌^◌, ◌&&◌, ℕ, unwrap_or, Some, IfSome, IfNone};
 ghost use Rattle.std.specs.Option.{option_map};
 ghost use Rattle.text_lengths.specs.Length.{length_plus, is_before};
@@ -17,8 +17,8 @@ use crate::placed::Placed;
 use text_lengths::Length;
 
 impl Node {
-    /// The level at a place of the tree, counted from its start: the level after the last entry
-    /// that starts before it, or 0.
+    /// Returns the level at a place of the tree, counted from its start: the level after the last entry that starts
+    /// before it, or 0.
     pub fn level_at(&self, place: Length) -> u64
         ensures { result ≡ tree_level self.now place }
     {
@@ -35,8 +35,8 @@ impl Node {
         }
     }
 
-    /// Where the other bracket of a pair starts, and its width, where one of the pair's brackets
-    /// starts at this place of the tree; None where no paired bracket does.
+    /// Finds the partner of the paired bracket that starts at this place of the tree: returns the partner's place and
+    /// width. None if no paired bracket starts there.
     pub fn partner_of(&self, place: Length) -> Option<(Length, u64)>
         ensures { result ≡ option_map place_and_len (tree_partner self.now place) }
     {
@@ -50,7 +50,7 @@ impl Node {
     }
 }
 
-// A walk down to the level at a place: the node that it came to, the node's level, and the level before its entries.
+// The state of a walk down to the level at a place: the node reached, its level, and the level before its entries.
 #[derive(Clone, Copy)]
 struct LevelWalk<'a> {
     here: Placed<'a>,
@@ -58,7 +58,7 @@ struct LevelWalk<'a> {
     before: u64,
 }
 
-// Where a walk goes on, or the level that it found.
+// The next state of a walk, or the level found.
 #[derive(Clone, Copy)]
 enum LevelStep<'a> {
     On(LevelWalk<'a>),
@@ -67,7 +67,7 @@ enum LevelStep<'a> {
 
 impl<'a> LevelWalk<'a> {
     #[tactic(auto, using(crate::proofs::LevelWalk::level_steps))]
-    // On to the part that tells the level at the place.
+    // Moves to the part that determines the level at the place, or returns that level.
     fn step(&self, place: &Length) -> LevelStep<'a>
         requires { HasRoom self.now.here.start self.now.level (seen_tree self.now.here.node) }
         ensures { IsLevelStep self.now place.now result }
@@ -112,7 +112,7 @@ impl<'a> LevelWalk<'a> {
         }
     }
 
-    // On to the node that stands after this one in a list.
+    // Moves on to `node`, the next part of the same list.
     fn past(&self, node: Seen<'a>) -> LevelWalk<'a>
         requires { HasRoom self.now.here.start self.now.level (seen_tree self.now.here.node) }
         ensures start { result.here.start
@@ -142,7 +142,7 @@ fn within<'a>(here: Placed<'a>, level: u64, before: u64) -> LevelWalk<'a>
     }
 }
 
-// Whether there is a closing bracket, and it starts before the place.
+// Whether there is a closing bracket and it starts, at `ends`, before the place.
 fn closes_before(closing: Option<u64>, ends: &Length, place: &Length) -> bool
     ensures { result ≡ (is_some_width closing && is_before ends.now place.now) }
 {
@@ -160,7 +160,8 @@ fn level_from(level: u64, before: u64, last: Option<u64>) -> u64
 }
 
 #[tactic(auto, using(crate::proofs::PartnerWalk::own_partners))]
-// The partner of a bracket at the place that stands in the node and in no part of it.
+// Returns the place and width of the partner of a bracket at the place that belongs to the node itself and not to a
+// part of it.
 fn partner_here(here: &Placed, place: &Length) -> Option<(Length, u64)>
     requires tree { IsTree (seen_tree here.now.node) }
     requires fits { reach here.now < 2 ^ 64 }

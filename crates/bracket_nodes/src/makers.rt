@@ -1,4 +1,4 @@
-// The makers of nodes, each with what the node keeps of its subtree.
+// Constructors of nodes, each of which computes what the node keeps of its subtree.
 ghost use Rattle.std.specs.Prelude.{◌≡◌, ◌+◌, ◌-◌, ◌<◌, ◌^◌, false, IfOk, IfSome, unwrap_or, Some, None};
 ghost use Rattle.std.specs.Option.{ForSome};
 ghost use Rattle.text_lengths.specs.Length.{length_plus};
@@ -17,8 +17,7 @@ use std::alloc::{AllocError, Global};
 use std::rc::Rc;
 use text_lengths::Length;
 
-/// Units without brackets: some columns of a line, or the break that ends a line with what stands
-/// before it.
+/// Makes a text without brackets: columns of one line, or the break that ends a line together with the text before it.
 pub fn text_node(alloc: Global, length: Length) -> Result<Node, AllocError>
     requires { IsGap length }
     ensures { IfOk result (λ node. node ≡ text length) }
@@ -31,7 +30,7 @@ pub fn text_node(alloc: Global, length: Length) -> Result<Node, AllocError>
     shared(alloc, Inner { shape, kept })
 }
 
-/// A pair of brackets of this kind with what is inside, unclosed where `closing` is None.
+/// Makes a pair of brackets of this kind with its content; it is unclosed if `closing` is None.
 pub fn pair_node(
     alloc: Global,
     kind: u64,
@@ -53,7 +52,7 @@ pub fn pair_node(
     shared(alloc, pair(kind, opening.columns, inside.link, closing))
 }
 
-/// A closing bracket of this kind that closes none.
+/// Makes an unexpected closing bracket of this kind: it closes no open bracket.
 pub fn stray_node(alloc: Global, kind: u64, bracket: Length) -> Result<Node, AllocError>
     requires has_kind { kind < MOST_PAIRS }
     requires bracket { IsBracketLength bracket }
@@ -67,7 +66,7 @@ pub fn stray_node(alloc: Global, kind: u64, bracket: Length) -> Result<Node, All
     shared(alloc, Inner { shape, kept })
 }
 
-/// An opening bracket of this kind beyond the most that may be open.
+/// Makes an opening bracket of this kind beyond the limit on open brackets.
 #[inline(never)]
 pub fn capped_node(alloc: Global, kind: u64, bracket: Length) -> Result<Node, AllocError>
     requires has_kind { kind < MOST_PAIRS }
@@ -100,7 +99,7 @@ fn shared(alloc: Global, inner: Inner) -> Result<Node, AllocError>
     Ok(Node { link })
 }
 
-// The pair, where it takes no memory of its own.
+// Returns the pair, if it takes no memory of its own.
 fn short_pair(kind: u64, opening: u64, inside: &Link, closing: Option<u64>) -> Option<Leaf>
     requires { IsPair kind opening (link_tree inside.now) closing }
     ensures { IfSome result (λ leaf. form_tree leaf

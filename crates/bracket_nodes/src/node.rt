@@ -34,7 +34,7 @@ impl Model for Node {
 }
 
 impl Node {
-    /// The same tree, shared.
+    /// Returns the same tree, shared.
     pub fn share(&self) -> Result<Node, AllocError>
         ensures { IfOk result (λ node. node ≡ self.now) }
     {
@@ -42,7 +42,7 @@ impl Node {
         Ok(Node { link })
     }
 
-    /// The tree's length. Every tree meets the rules of nodes, and its leaves together fit 64 bits.
+    /// Returns the tree's length. Every tree meets the rules of nodes, and the weight of all its leaves is below 2^64.
     pub fn length(&self) -> Length
         ensures length { result ≡ tree_length self.now }
         ensures tree { IsTree self.now }
@@ -51,42 +51,42 @@ impl Node {
         self.link.kept().length
     }
 
-    /// The kinds of the unexpected closing brackets.
+    /// Returns the kinds of the unexpected closing brackets.
     pub fn missing(&self) -> Kinds
         ensures { (k : ℕ) → has_kind result k ≡ is_missing k self.now }
     {
         self.link.kept().missing
     }
 
-    /// Whether each pair has its closing bracket.
+    /// Whether every pair has its closing bracket.
     pub fn closed(&self) -> bool
         ensures { result ≡ is_closed self.now }
     {
         self.link.kept().closed
     }
 
-    /// Whether there is a bracket beyond the most that may be open.
+    /// Whether the tree has a bracket beyond the limit on open brackets.
     pub fn capped(&self) -> bool
         ensures { result ≡ is_capped self.now }
     {
         self.link.kept().capped
     }
 
-    /// The greatest number of pairs inside one another.
+    /// Returns the greatest depth to which pairs are nested.
     pub fn nesting(&self) -> u64
         ensures { result ≡ nesting self.now }
     {
         self.link.kept().nesting
     }
 
-    /// The height of a list of several nodes, and else 0.
+    /// Returns the height of a list of several nodes, else 0.
     pub fn height(&self) -> u64
         ensures { result ≡ height self.now }
     {
         u64::from(self.link.kept().height)
     }
 
-    /// The greatest height of a list in the tree, itself and those inside pairs among them.
+    /// Returns the greatest height of a list in the tree, including the tree itself and the lists inside pairs.
     pub fn highest(&self) -> u64
         ensures highest { result ≡ highest self.now }
         ensures low { 2 ^ result ≤ weight self.now + 1 }
@@ -95,7 +95,7 @@ impl Node {
     }
 }
 
-// What leads to a node: the node itself, if it takes no memory of its own.
+// A link to a node: the node itself, if it takes no memory of its own.
 #[cycle(inner)]
 #[derive(Drop)]
 pub(crate) enum Link {
@@ -110,12 +110,12 @@ pub(crate) struct Inner {
     pub kept: Kept,
 }
 
-// What a node with memory of its own is.
+// The form of a node with memory of its own.
 #[cycle(inner)]
 #[derive(Drop)]
 pub(crate) enum Shape {
     Text(Length),
-    // The kind, the width of the opening bracket, what is inside, the width of the closing bracket.
+    // The kind, the width of the opening bracket, the content, and the width of the closing bracket, if there is one.
     Pair(u64, u64, Link, Option<u64>),
     Stray(u64, u64),
     Capped(u64, u64),
@@ -146,7 +146,7 @@ impl Model for Inner {
 }
 
 impl Inner {
-    /// What the node keeps of its subtree. It is some node: the list of no nodes takes no memory.
+    /// Returns what the node keeps of its subtree. The node is not the empty list, which takes no memory.
     #[inline(always)]
     pub fn kept(&self) -> Kept
         ensures keeps { Keeps self.now result }
@@ -157,9 +157,9 @@ impl Inner {
     }
 }
 
-// A loop goes on with the longest part that takes memory. So a call inside another drops a part of at most half its lines
-// or, within a line, of at most half its columns, and calls lie inside one another as often as these have binary digits,
-// however deep the tree is.
+// The loop continues with the longest part that takes memory. So a nested call drops a part of at most half the lines
+// or, within a line, at most half the columns. The depth of the calls is at most the number of binary digits of
+// these, however deep the tree is.
 impl Drop for Inner {
     fn drop(mut self) {
         loop {
@@ -184,7 +184,7 @@ impl Drop for Inner {
     }
 }
 
-// The two, and first the longer one; one that takes memory comes before one that takes none.
+// Returns the two links, the longer node first; a node with memory of its own comes before one without.
 fn longer_first(a: Link, b: Link) -> (Link, Link)
     ensures { tree_size (link_tree result.0) + tree_size (link_tree result.1)
         ≡ tree_size (link_tree a) + tree_size (link_tree b) }

@@ -1,4 +1,4 @@
-// The parser: it makes a tree of what a source gives.
+// The parser: makes a tree from a source.
 ghost use Rattle.std.specs.Prelude.{◌≡◌, ◌+◌, ◌<◌, ◌≤◌, ◌^◌, [], false, IfOk, OnOk};
 ghost use Rattle.bracket_rules.specs.TextRows.{HasRow};
 ghost use Rattle.bracket_tree_rules.specs.Told.{IsTreeOf};
@@ -16,19 +16,18 @@ use crate::node::Node;
 use bracket_rules::MOST_OPEN;
 use std::alloc::{AllocError, Global};
 
-/// What a source gives next.
+/// The next item of a source.
 #[derive(Drop)]
 pub enum Next {
-    /// The text has ended.
+    /// The end of the text.
     End,
-    /// A node that may stand here as it is.
+    /// A node that may be used at this place as it is.
     Ready(Node),
-    /// A bracket: its kind, its width, and whether it is an opening one.
+    /// A bracket: its kind, its width, and whether it opens.
     Bracket(u64, u64, bool),
 }
 
-/// A text as brackets and ready nodes, from its start to its end. Some of its lines it may have to
-/// ask for.
+/// A text as brackets and ready nodes, from its start to its end. The source may have to ask for some of its lines.
 pub trait Source {
     ghost use Rattle.bracket_nodes.specs.Source.{Ahead, Comes, AsksOn};
     ghost use Rattle.bracket_nodes.specs.Paying.{Paying, HasRoom, Spends, PaysFor};
@@ -37,11 +36,11 @@ pub trait Source {
 
     ghost paying: { Self → Paying };
 
-    // What a source keeps true as long as no call of it fails.
+    // A condition that the source keeps as long as none of its calls fails.
     ghost stands: { Self → Type 0 };
 
-    /// What comes next, where brackets of these kinds are open, `level` of them; it is taken off
-    /// the source. After an error nothing more may be taken.
+    /// Takes the next item from the source, at a place where `level` brackets are open, of the kinds `opened`. After
+    /// an error nothing more may be taken.
     fn next(&mut self, alloc: Global, opened: Kinds, level: u64) -> Result<Next, AllocError>
         requires level { level ≤ MOST_OPEN }
         requires stands { stands self.old }
@@ -54,7 +53,7 @@ pub trait Source {
             → Spends (paying self.old) (paying self.new) };
 }
 
-// Why a list stopped.
+// The reason why a list ended.
 #[derive(Clone, Copy)]
 pub(crate) enum Stop {
     AtEnd,
@@ -62,11 +61,11 @@ pub(crate) enum Stop {
     AtClosing(u64, u64),
 }
 
-// What was parsed next.
+// The result of parsing one item.
 #[derive(Drop)]
 pub(crate) enum Taken {
     One(Node),
-    // A node that ends with the list.
+    // A node after which the list ends too.
     Last(Node, Stop),
     Nothing(Stop),
 }
@@ -77,8 +76,8 @@ pub(crate) struct Part {
     pub stop: Stop,
 }
 
-/// The tree of the text that the source has ahead. In no line its leaves weigh more than the source
-/// has there. Each line that was left to ask for was asked for; after an error some of them were.
+/// Returns the tree of the text that the source has ahead. In each line its leaves weigh at most what the source has
+/// there. On success every line left to ask for was asked for; after an error, some of them.
 pub fn parse<S: Source>(alloc: Global, source: &mut S) -> Result<Node, AllocError>
     requires stands { S.stands source.old }
     requires some { HasRow (S.ahead source.old).rows }
@@ -96,7 +95,7 @@ pub fn parse<S: Source>(alloc: Global, source: &mut S) -> Result<Node, AllocErro
     Ok(part.list)
 }
 
-// The list of what stands before the end, or before a closing bracket of a kind that is open.
+// Parses the list up to the end, or up to a closing bracket of an open kind.
 #[cycle(parser)]
 fn parse_list<S: Source>(
     alloc: Global,
@@ -164,8 +163,8 @@ fn take<S: Source>(
     paired(alloc, kind, width, part)
 }
 
-// What comes next. Out of line, as what makes nodes: so the frame of a list, of which there is one for each open bracket,
-// has no room for them.
+// Takes the next item from the source. Not inlined, like the calls that make nodes: this keeps the stack frame of a
+// list, of which there is one for each open bracket, small.
 #[inline(never)]
 fn next_of<S: Source>(
     alloc: Global,
@@ -186,7 +185,7 @@ fn next_of<S: Source>(
     source.next(alloc, opened, level)
 }
 
-// A closing bracket stops the list, or closes no bracket.
+// Ends the list if the closing bracket's kind is open; else makes an unexpected closing bracket.
 #[inline(never)]
 fn closing(alloc: Global, opened: Kinds, kind: u64, width: u64) -> Result<Taken, AllocError>
     requires { IsLone kind width }
@@ -198,7 +197,7 @@ fn closing(alloc: Global, opened: Kinds, kind: u64, width: u64) -> Result<Taken,
     Ok(Taken::One(stray_node(alloc, kind, wide(width))?))
 }
 
-// An opening bracket beyond the most that may be open.
+// Makes an opening bracket beyond the limit on open brackets.
 #[inline(never)]
 fn too_deep(alloc: Global, kind: u64, width: u64) -> Result<Taken, AllocError>
     requires { IsLone kind width }
@@ -207,7 +206,7 @@ fn too_deep(alloc: Global, kind: u64, width: u64) -> Result<Taken, AllocError>
     Ok(Taken::One(capped_node(alloc, kind, wide(width))?))
 }
 
-// The list of what was read, which stops so.
+// Returns the list of the nodes read, with the reason why it ended.
 #[inline(never)]
 fn finished(alloc: Global, joiner: Joiner, stop: Stop) -> Result<Part, AllocError>
     requires { joined_weight joiner < 2 ^ 64 }
@@ -217,7 +216,8 @@ fn finished(alloc: Global, joiner: Joiner, stop: Stop) -> Result<Part, AllocErro
     Ok(Part { list, stop })
 }
 
-// The pair of an opening bracket and what stands after it, unclosed where that stopped otherwise.
+// Makes the pair of an opening bracket and the list after it. Unless a bracket of its kind ended that list, the pair
+// is unclosed and the outer list ends too.
 #[inline(never)]
 fn paired(alloc: Global, kind: u64, width: u64, part: Part) -> Result<Taken, AllocError>
     requires opening { IsLone kind width }

@@ -1,4 +1,4 @@
-// A node of a tree at its place, and the part of it that holds a place.
+// A node of a tree at its place, and the search for the part of it that holds a place.
 ghost use Rattle.std.specs.Prelude.{◌+◌, ◌<◌, ◌≤◌, ◌^◌, ◌↔◌, ◌≡◌, false, IsTrue, IfSome, IfNone};
 ghost use Rattle.text_lengths.specs.Length.{no_length, length_plus, is_before};
 ghost use Rattle.bracket_tree_rules.specs.Tree.{tree_length, wide, weight, nesting, IsTree};
@@ -15,7 +15,7 @@ use crate::node::{Inner, Link, Shape};
 use std::rc::Rc;
 use text_lengths::Length;
 
-// A node, and where it starts.
+// A node and its start.
 #[derive(Clone, Copy)]
 pub(crate) struct Placed<'a> {
     pub start: Length,
@@ -23,7 +23,7 @@ pub(crate) struct Placed<'a> {
 }
 
 impl<'a> Placed<'a> {
-    /// A whole tree, which starts at the start of a text.
+    /// Returns the whole tree, at the start of a text.
     pub fn whole(node: Seen<'a>) -> Placed<'a>
         requires { IsSound (seen_tree node) }
         ensures start { result.start ≡ no_length }
@@ -43,7 +43,7 @@ impl<'a> Placed<'a> {
     }
 
     #[tactic(auto, using(bracket_tree_rules::proofs::Parts::part_held))]
-    /// The part of the node that holds the place.
+    /// Returns the part of the node that holds the place; None if no part does.
     pub fn part_at(&self, place: &Length) -> Option<Placed<'a>>
         requires tree { IsTree (seen_tree self.now.node) }
         requires fits { reach self.now < 2 ^ 64 }
@@ -62,7 +62,7 @@ impl<'a> Placed<'a> {
         }
     }
 
-    // The same of a node without memory of its own, where it does not start behind the place.
+    // The same for a node without memory of its own, if it does not start after the place.
     fn part_of_leaf(&self, form: Form, place: &Length) -> Option<Placed<'a>>
         requires node { form_tree form ≡ seen_tree self.now.node }
         requires tree { IsTree (seen_tree self.now.node) }
@@ -85,7 +85,7 @@ impl<'a> Placed<'a> {
     }
 
     #[tactic(auto, using(crate::proofs::Runs::breaks_halved))]
-    // The same of line breaks.
+    // The same for a list of line breaks.
     fn half_at(&self, height: u8, place: &Length) -> Option<Placed<'a>>
         requires low { height ≤ HIGHEST_BREAKS }
         requires node { breaks height ≡ seen_tree self.now.node }
@@ -110,7 +110,7 @@ impl<'a> Placed<'a> {
         second.holding(place)
     }
 
-    // The same of a node with memory of its own: what no place leads to is not copied.
+    // The same for a node with memory of its own: parts that do not lead to the place are not copied.
     fn part_of_inner(&self, inner: &'a Rc<Inner>, place: &Length) -> Option<Placed<'a>>
         requires node { inner.now.value ≡ seen_tree self.now.node }
         requires tree { IsTree (seen_tree self.now.node) }
@@ -149,7 +149,7 @@ impl<'a> Placed<'a> {
         }
     }
 
-    /// The node that starts where this one does.
+    /// Returns `node` at the start of this one.
     pub fn first(&self, node: Seen<'a>) -> Placed<'a>
         ensures start { result.start ≡ self.now.start }
         ensures node { seen_tree result.node ≡ seen_tree node.entry }
@@ -160,7 +160,7 @@ impl<'a> Placed<'a> {
         }
     }
 
-    /// The node behind an opening bracket of that width, which starts where this one does.
+    /// Returns `node` after an opening bracket of width `opening` at the start of this one.
     pub fn inside(&self, opening: u64, node: Seen<'a>) -> Placed<'a>
         requires { self.now.start.lines + self.now.start.columns + opening < 2 ^ 64 }
         ensures start { result.start ≡ length_plus self.now.start (wide opening) }
@@ -172,7 +172,7 @@ impl<'a> Placed<'a> {
         }
     }
 
-    /// The node that starts where this one ends.
+    /// Returns `node` at the end of this one.
     pub fn next(&self, node: Seen<'a>) -> Placed<'a>
         requires tree { IsTree (seen_tree self.now.node) }
         requires fits { reach self.now < 2 ^ 64 }
@@ -187,7 +187,7 @@ impl<'a> Placed<'a> {
         }
     }
 
-    // The node, if it holds the place.
+    // Returns the node, if it holds the place.
     fn holding(&self, place: &Length) -> Option<Placed<'a>>
         requires tree { IsTree (seen_tree self.now.node) }
         requires fits { reach self.now < 2 ^ 64 }
@@ -199,7 +199,7 @@ impl<'a> Placed<'a> {
         if self.holds(place) { Some(*self) } else { None }
     }
 
-    /// Whether the node starts at the place or before it, and ends after it.
+    /// Whether the node starts at or before the place and ends after it.
     pub fn holds(&self, place: &Length) -> bool
         requires tree { IsTree (seen_tree self.now.node) }
         requires fits { reach self.now < 2 ^ 64 }
@@ -209,7 +209,7 @@ impl<'a> Placed<'a> {
     }
 }
 
-// The node that a link leads to, which starts here.
+// Returns the node of a link, starting at `start`.
 fn linked(start: Length, link: &Link) -> Placed<'_>
     ensures start { result.start ≡ start }
     ensures node { seen_tree result.node ≡ link_tree link.now }

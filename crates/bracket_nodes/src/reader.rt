@@ -1,4 +1,4 @@
-//! A reader of a tree that goes on where it stood.
+//! A reader of a tree that resumes from its last place.
 ghost use Rattle.std.specs.Prelude.{◌≡◌, ◌<◌, ◌^◌, IfSome, IfNone};
 ghost use Rattle.text_lengths.specs.Length.{no_length};
 ghost use Rattle.bracket_tree_rules.specs.Tree.{tree_length, weight, IsTree};
@@ -19,12 +19,12 @@ use std::alloc::Global;
 use std::marker::Model;
 use text_lengths::Length;
 
-/// A reader of a tree, which starts at the start of a text: places are counted from there. It may be asked at any place,
-/// and at rising ones it goes on where it stood. No call fails for want of memory.
+/// A reader of a tree that starts at the start of a text: places are counted from there. Any place may be queried; at
+/// ascending places it resumes from the last one. No call fails for lack of memory.
 #[derive(Drop)]
 pub struct NodeReader<'a> {
     root: Seen<'a>,
-    // Nodes that lead to where it stood, inside one another. They only save walks: any may be missing.
+    // Nodes on the way to the last place, each inside the one before. They only shorten walks: any may be missing.
     path: Vec<Placed<'a>>,
 }
 
@@ -56,7 +56,7 @@ impl<'a> NodeReader<'a> {
         }
     }
 
-    /// The tree's length. Every tree meets the rules of nodes, and its leaves together fit 64 bits.
+    /// Returns the tree's length. Every tree meets the rules of nodes, and the weight of all its leaves is below 2^64.
     pub fn length(&self) -> Length
         ensures length { result ≡ tree_length self.now }
         ensures tree { IsTree self.now }
@@ -65,8 +65,8 @@ impl<'a> NodeReader<'a> {
         self.root.kept().length
     }
 
-    /// The longest node at this place that may be taken where so many lines are left and brackets
-    /// of these kinds are open, `level` of them; None where there is no such node.
+    /// Finds the longest node at this place that may be taken where `lines` lines are left and `level` brackets are
+    /// open, of the kinds `opened`; None if there is none.
     pub fn longest_at(
         &mut self,
         place: Length,
@@ -94,7 +94,7 @@ impl<'a> NodeReader<'a> {
         }
     }
 
-    /// The bracket that starts at this place, as one of its line; None where none does.
+    /// Returns the bracket that starts at this place, as a token of its line; None if none starts there.
     pub fn bracket_at(&mut self, place: Length) -> Option<Token>
         ensures some { IfSome result (IsTokenAt no_length self.old place) }
         ensures none { IfNone result (NoBracketAt no_length self.old place) }
@@ -110,8 +110,8 @@ impl<'a> NodeReader<'a> {
         }
     }
 
-    // The last node of the path that starts before the place and ends after it, or the whole tree. What lies beyond it is
-    // left.
+    // Returns the last node of the path that starts before the place and ends after it, or the whole tree. Nodes
+    // after it are removed from the path.
     fn back_before(&mut self, place: &Length) -> Placed<'a>
         ensures shown { IsOnPath self.old result }
         ensures nodes { ShowsNodes self.old result.start (seen_tree result.node) place.now }
@@ -126,7 +126,8 @@ impl<'a> NodeReader<'a> {
         Placed::whole(self.root)
     }
 
-    // The last node of the path that holds the place, or the whole tree. What lies beyond it is left.
+    // Returns the last node of the path that holds the place, or the whole tree. Nodes after it are removed from the
+    // path.
     fn back_to(&mut self, place: &Length) -> Placed<'a>
         ensures shown { IsOnPath self.old result }
         ensures brackets { ShowsBrackets self.old result.start (seen_tree result.node) place.now }
@@ -141,7 +142,7 @@ impl<'a> NodeReader<'a> {
         Placed::whole(self.root)
     }
 
-    // Puts a node at the end of the path, if there is memory for it.
+    // Appends a node to the path, if there is memory for it.
     fn keep(&mut self, here: Placed<'a>)
         requires { IsOnPath self.old here }
         ensures { self.new ≡ self.old }

@@ -15,17 +15,17 @@ use std::alloc::{AllocError, Global};
 use std::marker::Model;
 use text_lengths::Length;
 
-/// A line of a text: its brackets in order, and how many columns it has.
+/// A line of a text: its brackets in order, and its number of columns.
 #[derive(Drop, Debug)]
 pub struct ScannedLine {
     pub tokens: Vec<Token>,
     pub columns: u64,
 }
 
-// What is left of a text.
+// The rest of a text.
 #[derive(Drop)]
 struct ScannedText<'a> {
-    // The brackets that are left of the line that is read, and where it is read.
+    // The brackets left in the current line, and the column reached in it.
     tokens: &'a [Token],
     column: u64,
     columns: u64,
@@ -85,8 +85,8 @@ impl<'a> Source for ScannedText<'a> {
     }
 }
 
-/// The tree of a text of these lines, of which there is at least one. Its leaves weigh no more in a
-/// line than a unit for each column, and one for the break.
+/// Returns the tree of a text of these lines, at least one. In each line its leaves weigh at most one unit for each
+/// column and one for the break.
 pub fn parse_lines(alloc: Global, lines: &[ScannedLine]) -> Result<Node, AllocError>
     requires some { 0 < length lines.now }
     requires lines { AreLines lines.now }

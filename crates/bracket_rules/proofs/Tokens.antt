@@ -1,4 +1,4 @@
--- The tokens of a line stand in order in the line, and their kinds are those of the table.
+-- The tokens of a line are in order within the line, and their kinds are those of the table.
 use Rattle.std.proofs.Common.{◌≡◌, ℕ, zero, suc, ◌+◌, ◌-◌, ◌<◌, ◌≤◌, Bool, true, false, cond, ◌&&◌, Option, Some, None, List, [], ◌∷◌, ◌++◌, length, take, refl, ap, sym, arith, length-take, subst}
 use Rattle.std.specs.Prelude.{nat_eq, nat_lt, IfSome}
 use Rattle.std.specs.Cmp.Lexicographic.{pointwise}
@@ -9,7 +9,7 @@ use Rattle.bracket_rules.specs.declared.Token.{Token}
 use Rattle.bracket_rules.specs.declared.TheConstants.{MOST_PAIRS}
 use Rattle.bracket_rules.specs.Table.{Table, texts_of, is_bracket_text, is_table, token, standing, longer, longest, units_after_first, tokens_from, tokens_of, AreInLine}
 
--- ---- what a table says of its texts and of its length
+-- ---- the bounds on a table's texts and on its length
 
 pub has_texts : (pairs : Table) → is_table pairs ≡ true → list_all is_bracket_text (texts_of pairs) ≡ true
 has_texts pairs h = (and_parts _ _ (and_parts _ _ h).0).1
@@ -17,9 +17,9 @@ has_texts pairs h = (and_parts _ _ (and_parts _ _ h).0).1
 pub has_few_pairs : (pairs : Table) → is_table pairs ≡ true → length pairs ≤ MOST_PAIRS
 has_few_pairs pairs h = leb-true (length pairs) MOST_PAIRS (and_parts _ _ (and_parts _ _ (and_parts _ _ h).0).0).1
 
--- ---- the longest text at a place
+-- ---- the longest text at an index
 
--- a token there, of at least one unit and at most so many, of a kind below this
+-- the token is at `at`, has from 1 to `most` units, and its kind is below `kinds`
 pub record IsThere (at most kinds : ℕ) (t : Token) : Type 0 where
   pub place : t.at ≡ at
   pub some : 0 < t.len

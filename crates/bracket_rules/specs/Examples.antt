@@ -8,7 +8,7 @@ use Rattle.bracket_rules.specs.Table.{Table, standard_table}
 use Rattle.bracket_rules.specs.Parse.{spot, bracket_entries, bracket_partner, bracket_level}
 use Rattle.bracket_rules.specs.TextRows.{text_brackets}
 
--- an entry by its numbers
+-- an entry from its fields
 abbrev pub entry : ℕ → ℕ → ℕ → ℕ → Status → ℕ → Entry
 entry line column len kind status level = record {
   place = length_of line column;
@@ -71,7 +71,7 @@ level_after_closing = refl
 level_at_end : bracket_level (text_brackets standard_table crossed) (length_of 0 5) ≡ 1
 level_at_end = refl
 
--- 301 times `(`: the last one is no entry
+-- 301 times `(`: the last one gives no entry
 abbrev levels_of : List Entry → List ℕ
 levels_of [] = []
 levels_of (e ∷ es) = e.level ∷ levels_of es

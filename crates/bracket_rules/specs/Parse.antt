@@ -1,6 +1,6 @@
--- The brackets of a whole text: its tokens are folded with a stack of the brackets that are open, as in
--- "Bracket pair colorization 10,000x faster" (2021). What closes a bracket is told by the tokens after it, so the
--- parse gives, beside the entries of the tokens, what closes each bracket that is open before them.
+-- The brackets of a whole text: its tokens are folded with a stack of the open brackets, as in "Bracket pair
+-- colorization 10,000x faster" (2021). The closer of a bracket depends on the tokens after it. The parse therefore
+-- returns, beside the entries of the tokens, the closer of each bracket that is open before them.
 use Rattle.std.specs.Prelude.{ℕ, zero, suc, Bool, ◌&&◌, ◌==◌, nat_lt, nat_le, if◌then◌else◌, List, [], ◌∷◌, ◌++◌, length, drop, replicate, Option, Some, None}
 use Rattle.std.specs.List.{filter}
 use Rattle.std.specs.Option.{option_map}
@@ -21,7 +21,7 @@ pub record Bracket : Type 0 where
 abbrev pub bracket : Length → ℕ → ℕ → Bool → Bracket
 bracket place len kind opening = record { place = place; len = len; kind = kind; opening = opening }
 
--- where a bracket stands
+-- the start and the length of a bracket
 pub record Spot : Type 0 where
   pub place : Length
   pub len : ℕ
@@ -32,21 +32,21 @@ spot place len = record { place = place; len = len }
 abbrev pub spot_of : Bracket → Spot
 spot_of b = spot b.place b.len
 
--- an entry, and where the other bracket of its pair stands
+-- an entry, and the other bracket of its pair
 pub record Judged : Type 0 where
   pub entry : Entry
   pub partner : Option Spot
 
--- ---- what a token does to the stack
+-- ---- the effect of a token on the stack
 
 pub data Event : Type 0 where
   opens : Event
   too_deep : Event
-  -- closes the bracket below so many others
+  -- closes the open bracket at this depth, with this number of brackets above it
   closes : ℕ → Event
   unexpected : Event
 
--- how many brackets stand on the stack above the nearest of this kind
+-- the depth of the nearest bracket of this kind: the number of brackets above it on the stack
 abbrev pub depth_of : ℕ → List Bracket → Option ℕ
 depth_of kind [] = None
 depth_of kind (b ∷ stack) = if b.kind == kind then Some 0 else option_map suc (depth_of kind stack)
@@ -74,7 +74,7 @@ judged b status level partner = record {
   partner = partner;
 }
 
--- an opening bracket with what closes it, if anything does
+-- the entry of an opening bracket, given its closer if it has one
 abbrev pub judged_opening : Bracket → ℕ → Option Spot → Judged
 judged_opening b level None = judged b Unclosed level None
 judged_opening b level (Some closer) = judged b PairedOpening level (Some closer)
@@ -92,7 +92,7 @@ spot_at (suc n) (b ∷ stack) = spot_at n stack
 
 -- ---- the parse
 
--- the entries of some tokens, and what closes each bracket that is open before them, the nearest first
+-- the entries of some tokens, and the closer of each bracket that is open before them, the nearest first
 pub record Story : Type 0 where
   pub closers : List (Option Spot)
   pub entries : List Judged
@@ -116,7 +116,7 @@ told stack b unexpected s = record {
   entries = judged_unexpected b (length stack) ∷ s.entries;
 }
 
--- the text ends: nothing closes what is open
+-- the end of the text: the open brackets have no closer
 abbrev pub story_end : List Bracket → Story
 story_end stack = record { closers = replicate (length stack) None; entries = [] }
 
@@ -124,7 +124,7 @@ abbrev pub parse : List Bracket → List Bracket → Story
 parse stack [] = story_end stack
 parse stack (b ∷ rest) = told stack b (event stack b) (parse (stack_after stack b (event stack b)) rest)
 
--- ---- what is asked of a text with these tokens
+-- ---- queries on a text with these tokens
 
 abbrev pub bracket_story : List Bracket → List Judged
 bracket_story brackets = (parse [] brackets).entries
@@ -133,11 +133,11 @@ abbrev pub entries_of : List Judged → List Entry
 entries_of [] = []
 entries_of (j ∷ js) = j.entry ∷ entries_of js
 
--- all entries, in the order of the text
+-- all entries, in text order
 abbrev pub bracket_entries : List Bracket → List Entry
 bracket_entries brackets = entries_of (bracket_story brackets)
 
--- the entries that start in these lines, both counted from 0 and both included
+-- the entries that start in lines `from` to `to`, both included and counted from 0
 abbrev pub is_between : ℕ → ℕ → Entry → Bool
 is_between from to e = nat_le from e.place.lines && nat_le e.place.lines to
 
@@ -147,7 +147,7 @@ entries_between from to entries = filter (is_between from to) entries
 abbrev pub same_place : Length → Length → Bool
 same_place p q = p.lines == q.lines && p.columns == q.columns
 
--- the partner of the entry that starts at this place
+-- the partner of the entry that starts at position `p`
 abbrev pub partner_at : Length → List Judged → Option Spot
 partner_at p [] = None
 partner_at p (j ∷ js) = if same_place j.entry.place p then j.partner else partner_at p js
@@ -155,7 +155,7 @@ partner_at p (j ∷ js) = if same_place j.entry.place p then j.partner else part
 abbrev pub bracket_partner : List Bracket → Length → Option Spot
 bracket_partner brackets p = partner_at p (bracket_story brackets)
 
--- the stack after the tokens that start before this place
+-- the stack after the tokens that start before position `p`
 abbrev pub stack_before : Length → List Bracket → List Bracket → List Bracket
 stack_before p stack [] = stack
 stack_before p stack (b ∷ rest) =

@@ -1,5 +1,5 @@
--- A text as rows, one for each line: the brackets of the line, and its columns. A line that a break ends counts no
--- columns, as in lengths.
+-- A text as rows, one for each line: the brackets of the line, and its columns. A line with a break counts 0 columns,
+-- as in lengths.
 use Rattle.std.specs.Prelude.{ℕ, suc, ◌+◌, List, [], ◌∷◌, ◌++◌}
 use Rattle.text_lengths.specs.declared.Length.{Length}
 use Rattle.text_lengths.specs.Length.{length_of}
@@ -13,7 +13,7 @@ pub record Row : Type 0 where
 abbrev pub row : List Token → ℕ → Row
 row brackets columns = record { brackets = brackets; columns = columns }
 
--- ---- what rows show
+-- ---- the brackets of rows
 
 abbrev pub bracket_at : Length → Token → Bracket
 bracket_at p t = bracket (length_of p.lines (p.columns + t.at)) t.len t.kind t.opening
@@ -22,11 +22,11 @@ abbrev pub brackets_at : Length → List Token → List Bracket
 brackets_at p [] = []
 brackets_at p (t ∷ ts) = bracket_at p t ∷ brackets_at p ts
 
--- where the line after this place begins
+-- the start of the line after this position
 abbrev pub next_line : Length → Length
 next_line p = length_of (suc p.lines) 0
 
--- the brackets of the rows where the first row starts at this place
+-- the brackets of the rows if the first row starts at position `p`
 abbrev pub placed : Length → List Row → List Bracket
 placed p [] = []
 placed p (r ∷ rows) = brackets_at p r.brackets ++ placed (next_line p) rows

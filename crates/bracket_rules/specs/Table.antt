@@ -1,4 +1,4 @@
--- Bracket tables, and the tokens of a line: at each place the longest text of the table that stands there.
+-- Bracket tables, and the tokens of a line: at each index the longest text of the table that starts there.
 use Rattle.std.specs.Prelude.{◌≡◌, ◌<◌, ◌≤◌, ℕ, zero, suc, ◌+◌, ◌-◌, Bool, true, false, not, ◌&&◌, ◌==◌, nat_eq, nat_lt, nat_le, if◌then◌else◌, List, [], ◌∷◌, ◌++◌, length, Option, Some, None, refl}
 use Rattle.std.specs.Cmp.Lexicographic.{pointwise}
 use Rattle.std.specs.List.{starts_with, list_all, list_any}
@@ -7,11 +7,11 @@ use Rattle.unit_text.specs.declared.TheConstants.{LINE_FEED, CARRIAGE_RETURN}
 use Rattle.bracket_rules.specs.declared.Token.{Token}
 use Rattle.bracket_rules.specs.declared.TheConstants.{MOST_PAIRS, MOST_BRACKET_UNITS}
 
--- pairs of an opening and a closing text, each a list of UTF-16 code units. The kind of a pair is its place, from 0
+-- pairs of an opening and a closing text, each a list of UTF-16 code units; the kind of a pair is its index, from 0
 abbrev pub Table : Type 0
 Table = List (List ℕ × List ℕ)
 
--- ---- which lists of pairs are tables
+-- ---- which lists of pairs are valid tables
 
 abbrev pub texts_of : Table → List (List ℕ)
 texts_of [] = []
@@ -44,7 +44,7 @@ standard_table = (40 ∷ [], 41 ∷ []) ∷ (91 ∷ [], 93 ∷ []) ∷ (123 ∷ 
 abbrev pub token : ℕ → ℕ → ℕ → Bool → Token
 token at len kind opening = record { at = at; len = len; kind = kind; opening = opening }
 
--- the text, if it stands at the front of these units, as a token at place `at`
+-- the token of `text` at index `at` if the units begin with that text
 abbrev pub standing : ℕ → ℕ → Bool → List ℕ → List ℕ → Option Token
 standing at kind opening text units =
     if starts_with nat_eq units text then Some (token at (length text) kind opening) else None
@@ -54,19 +54,19 @@ longer None other = other
 longer (Some t) None = Some t
 longer (Some t) (Some u) = if nat_lt t.len u.len then Some u else Some t
 
--- the longest text of the table at the front of these units. The first pair has this kind
+-- the token of the longest text of the table with which the units begin; the first pair has kind `kind`
 abbrev pub longest : ℕ → ℕ → Table → List ℕ → Option Token
 longest at kind [] units = None
 longest at kind (p ∷ ps) units =
     longer (standing at kind true p.0 units)
     (longer (standing at kind false p.1 units) (longest at (suc kind) ps units))
 
--- how many units after its first a token takes up; what is no token takes up one unit
+-- the number of units of a token after its first one; 0 if there is no token
 abbrev pub units_after_first : Option Token → ℕ
 units_after_first None = 0
 units_after_first (Some t) = t.len - 1
 
--- the tokens of the units from place `at` on, the first `passed` of which belong to a token before
+-- the tokens of the units from index `at` on; the first `passed` units belong to an earlier token
 abbrev pub tokens_from : Table → ℕ → ℕ → List ℕ → List Token
 tokens_from table at passed [] = []
 tokens_from table at (suc passed) (u ∷ units) = tokens_from table (suc at) passed units
@@ -77,7 +77,7 @@ tokens_from table at zero (u ∷ units) =
 abbrev pub tokens_of : Table → List ℕ → List Token
 tokens_of table line = tokens_from table 0 0 line
 
--- tokens of a line from this column on: in order, not overlapping, and within the line
+-- the tokens are in order, do not overlap, and lie in a line of `columns` units from this column on
 abbrev pub AreInLine : ℕ → ℕ → List Token → Type 0
 AreInLine column columns [] = column ≤ columns
 AreInLine column columns (t ∷ ts) =

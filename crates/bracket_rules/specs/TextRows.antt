@@ -1,4 +1,4 @@
--- The rows of texts one after another, and those of a text by a table.
+-- The rows of texts in sequence, and those of a text by a table.
 use Rattle.std.specs.Prelude.{◌≡◌, ℕ, suc, ◌+◌, List, [], ◌∷◌, ◌++◌, length, ⊤, refl, true, false}
 use Rattle.text_lengths.specs.declared.Length.{Length}
 use Rattle.text_lengths.specs.Length.{length_of, no_length}
@@ -7,35 +7,35 @@ use Rattle.bracket_rules.specs.Table.{Table, token, tokens_of, standard_table}
 use Rattle.bracket_rules.specs.Parse.{Bracket, bracket}
 use Rattle.bracket_rules.specs.Rows.{Row, row, placed}
 
--- at least one row: every text has a line
+-- there is at least one row: every text has a line
 abbrev pub HasRow : List Row → Type 0
 HasRow [] = ⊥
 HasRow (r ∷ rows) = ⊤
 
--- no text has one line without brackets or columns
+-- the empty text has one line without brackets or columns
 abbrev pub empty_row : Row
 empty_row = row [] 0
 
--- ---- one text after another
+-- ---- two texts in sequence
 
--- the brackets of a line where they stand so many columns further on
+-- the brackets of a line, moved by `columns` columns to the right
 abbrev pub shifted : ℕ → List Token → List Token
 shifted columns [] = []
 shifted columns (t ∷ ts) = token (columns + t.at) t.len t.kind t.opening ∷ shifted columns ts
 
--- the line of row r goes on with row s, which lines follow or not
+-- the row of a line that begins with row r and goes on with row s; the list has the rows after s
 abbrev pub joined_row : Row → Row → List Row → Row
 joined_row r s [] = row (r.brackets ++ shifted r.columns s.brackets) (r.columns + s.columns)
 joined_row r s (x ∷ xs) = row (r.brackets ++ shifted r.columns s.brackets) s.columns
 
--- the rows of one text and of the text after it: the first's last line goes on with the second's first
+-- the rows of two texts in sequence: the last line of the first goes on with the first line of the second
 abbrev pub glue : List Row → List Row → List Row
 glue [] b = b
 glue (r ∷ []) [] = r ∷ []
 glue (r ∷ []) (s ∷ b) = joined_row r s b ∷ b
 glue (r ∷ x ∷ a) b = r ∷ glue (x ∷ a) b
 
--- ---- how long the text of the rows is
+-- ---- the length of the text of the rows
 
 abbrev pub rows_length : List Row → Length
 rows_length [] = no_length
@@ -49,7 +49,7 @@ text_rows table [] = []
 text_rows table (x ∷ []) = row (tokens_of table x) (length x) ∷ []
 text_rows table (x ∷ y ∷ lines) = row (tokens_of table x) 0 ∷ text_rows table (y ∷ lines)
 
--- the brackets of a text, in order
+-- the brackets of a text, in text order
 abbrev pub text_brackets : Table → List (List ℕ) → List Bracket
 text_brackets table lines = placed no_length (text_rows table lines)
 

@@ -1,4 +1,4 @@
--- The parts of a line of which comments and strings hide some, and a line of which they hide none.
+-- The parts of a line, some of which comments and strings hide, and a line without hidden parts.
 use Rattle.std.proofs.Common.{◌≡◌, ℕ, zero, suc, ◌+◌, ◌<◌, ◌≤◌, true, Option, Some, None, IfSome, List, [], ◌∷◌, length, drop, refl, ap, sym, ◌∙◌, arith, drop_of_length-le}
 use Rattle.bracket_rules.specs.declared.Token.{Token}
 use Rattle.bracket_rules.specs.declared.TheConstants.{MOST_BRACKET_UNITS}
@@ -26,7 +26,7 @@ module _ (by : Scanner) where
       passed_by (suc at) passed within units
       ∙ ap (λ n. scanned_from by n 0 within (drop passed units)) (omega arith)
 
-  -- what is left behind the front is what is left behind so many units
+  -- the rest after the front is the rest after its first `len` units
   front_rest : (at : ℕ) (within : Within) (u : ℕ) (units : List ℕ) (f : Front) (len : ℕ)
       → front by at within (u ∷ units) ≡ f → suc f.after_first ≡ len
       → scanned_from by at 0 within (u ∷ units) ≡ after f.token (scanned_from by (at + len) 0 f.behind (drop len (u ∷ units)))
@@ -49,7 +49,7 @@ module _ (by : Scanner) where
         (ap (λ x. front_of x (longest at 0 by.table (u ∷ units))) hides) (omega arith);
   }
 
-  -- a token, or a unit that begins none
+  -- a token, or a unit at which none begins
   pub shown_part : (at : ℕ) (within : Within) (units : List ℕ) (p : Part) → 0 < length units
       → hidden by.marks within units ≡ None → p.token ≡ longest at 0 by.table units → IfSome p.token (IsWithin (length units))
       → p.len ≡ suc (units_after_first p.token) → p.behind ≡ code → IsPart by at within units p

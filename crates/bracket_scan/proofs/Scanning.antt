@@ -1,4 +1,4 @@
--- The steps of a scan: past a token, and past a unit where none stands.
+-- The steps of a scan: past a token, and past a unit at which no token begins.
 use Rattle.std.proofs.Common.{◌≡◌, ℕ, zero, suc, ◌+◌, ◌-◌, ◌<◌, ◌≤◌, true, Option, Some, None, List, [], ◌∷◌, ◌++◌, length, take, drop, get_or, refl, ap, sym, ◌∙◌, arith, length-take}
 use Rattle.std.specs.Prelude.{IfSome}
 use Rattle.std.specs.Option.{option_to_list}
@@ -38,7 +38,7 @@ drop-suc : (n u : ℕ) (units : List ℕ) → 0 < n → drop (n - 1) units ≡ d
 drop-suc zero u units h = absurd (omega arith)
 drop-suc (suc n) u units h = ap (λ (k : ℕ). drop k units) (omega arith)
 
--- at a place of a line, from there on
+-- the same from a position of a line on
 pub tokens_from-some : (table : Table) (line : List ℕ) (at : ℕ) (t : Token)
     → at < length line → longest at 0 table (drop at line) ≡ Some t → 0 < t.len
     → tokens_from table at 0 (drop at line) ≡ t ∷ tokens_from table (at + t.len) 0 (drop (at + t.len) line)

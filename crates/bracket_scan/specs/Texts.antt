@@ -13,7 +13,7 @@ abbrev pub pairs_of : Texts → Table
 pairs_of Standard = standard_table
 pairs_of (Listed pairs starts) = pairs.items
 
--- each of so many buckets has the texts of the pairs that begin in it
+-- there are `buckets` buckets, and each has the texts of the pairs whose first unit is in it
 pub record Dispatches (buckets : ℕ) (pairs : Table) (starts : List (Vec Start Global)) : Type 0 where
   pub all : length starts ≡ buckets
   pub each : (bucket : ℕ) (other : Vec Start Global) → bucket < buckets

@@ -1,5 +1,5 @@
-//! Bracket tables, and the brackets of a line by a table: at each place the longest text of the
-//! table that stands there.
+//! Bracket tables, and the scan of a line for the brackets of a table: at each position the longest text of the table
+//! that begins there.
 #![tactic(auto)]
 
 mod rules;

@@ -1,4 +1,4 @@
-// Which lists of pairs are tables.
+// The rules for valid tables.
 ghost use Rattle.std.specs.Prelude.{◌≡◌, ◌+◌, ◌<◌, ◌≤◌, ◌&&◌, length};
 ghost use Rattle.std.specs.List.{list_any, list_all};
 ghost use Rattle.bracket_rules.specs.Table.{texts_of, same_units, is_in_line, is_bracket_text, are_distinct, is_table};
@@ -6,8 +6,8 @@ ghost use Rattle.bracket_rules.specs.Table.{texts_of, same_units, is_in_line, is
 use bracket_rules::{MOST_BRACKET_UNITS, MOST_PAIRS};
 use unit_text::{CARRIAGE_RETURN, LINE_FEED, Units};
 
-/// Whether the pairs are a bracket table: 1 to 64 of them, whose texts have 1 to 32 units without
-/// CR or LF and are all distinct.
+/// Returns whether the pairs are a bracket table: 1 to 64 of them, whose texts have 1 to 32 units without CR or LF and
+/// are all distinct.
 pub(crate) fn is_table(pairs: &[(Units, Units)]) -> bool
     ensures { result ≡ is_table pairs.now }
 {

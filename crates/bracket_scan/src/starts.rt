@@ -1,4 +1,4 @@
-// Where the texts of a table begin, so that a place of a line is compared with few of them.
+// Groups the texts of a table by their first unit, so that a position of a line is compared with few of them.
 ghost use Rattle.std.specs.Prelude.{◌≡◌, ◌+◌, ◌%◌, ◌<◌, ◌++◌, length, IfOk, OnOk};
 ghost use Rattle.std.specs.List.{All};
 ghost use Rattle.bracket_rules.specs.Table.{standing, longer};
@@ -8,17 +8,17 @@ use bracket_rules::Token;
 use std::alloc::{AllocError, Global};
 use unit_text::Units;
 
-/// How many buckets the first units of the texts fall into.
+/// The number of buckets for the first units of the texts.
 pub(crate) const BUCKETS: u16 = 64;
 
-/// A text of the table: which of its pair's two.
+/// A text of the table: the kind of its pair, and whether it is the opening text of the pair.
 #[derive(Clone, Copy)]
 pub(crate) struct Start {
     pub kind: u64,
     pub opening: bool,
 }
 
-/// The texts of the pairs that begin in the bucket.
+/// Returns the texts of the pairs whose first unit is in the bucket.
 pub(crate) fn starts_in(
     alloc: Global,
     bucket: u16,
@@ -58,7 +58,7 @@ fn begins_in(bucket: u16, text: &Units) -> bool
     }
 }
 
-/// The longest of these texts at the front of the units, as a token at place `at`.
+/// Returns the longest of these texts with which the units begin, as a token at position `at`.
 pub(crate) fn longest_among(
     pairs: &[(Units, Units)],
     at: u64,

@@ -14,19 +14,19 @@ use std::marker::Model;
 use thiserror::Error;
 use unit_text::Units;
 
-/// Why no table was made.
+/// The reason why no table was created.
 #[derive(Clone, Copy, PartialEq, Eq, Debug, Error)]
 pub enum TableError {
-    /// The pairs are no table: there are none or more than 64, a text is empty, has more than 32
-    /// units or a line break, or two texts are equal.
+    /// The pairs are not a table: there are none or more than 64, a text is empty, has more than 32 units or contains a
+    /// line break, or two texts are equal.
     #[error("the pairs are no bracket table")]
     BadTable,
-    /// There was no memory for the table.
+    /// Memory for the table is short.
     #[error("out of memory")]
     Memory,
 }
 
-/// A bracket table: pairs of an opening and a closing text. The kind of a pair is its place.
+/// A bracket table: pairs of an opening and a closing text. The kind of a pair is its index.
 #[derive(Drop)]
 pub struct BracketTable {
     texts: Texts,
@@ -34,9 +34,9 @@ pub struct BracketTable {
 
 #[derive(Drop)]
 enum Texts {
-    // `()`, `[]` and `{}`, which take no memory.
+    // `()`, `[]` and `{}`, without allocated memory.
     Standard,
-    // The pairs, and for each bucket of units the texts that begin there.
+    // The pairs, and for each bucket of units the texts whose first unit is in it.
     Listed(Vec<(Units, Units)>, Vec<Vec<Start>>),
 }
 
@@ -53,7 +53,7 @@ impl Model for BracketTable {
 }
 
 impl BracketTable {
-    /// The table of `()`, `[]` and `{}`.
+    /// Returns the table of `()`, `[]` and `{}`.
     pub fn standard() -> BracketTable
         ensures { result ≡ standard_table }
     {
@@ -62,7 +62,8 @@ impl BracketTable {
         }
     }
 
-    /// The table of these pairs.
+    /// Creates the table of these pairs. Fails with `BadTable` if they are not a table, and with `Memory` if memory is
+    /// short.
     pub fn new(alloc: Global, pairs: &[(Units, Units)]) -> Result<BracketTable, TableError>
         ensures ok { IfOk result (λ table. table ≡ pairs.now) }
         ensures bad { (result ≡ Err TableError.BadTable) ↔ (is_table pairs.now ≡ false) }
@@ -76,14 +77,14 @@ impl BracketTable {
         }
     }
 
-    /// Appends the tokens of the line, from left to right: at each place the longest text of the
-    /// table that stands there. On want of memory `out` is unchanged.
+    /// Appends the tokens of the line to `out`, from left to right: at each position the longest text of the table that
+    /// begins there. If memory is short, `out` is unchanged.
     pub fn scan(&self, line: &[u16], out: &mut Vec<Token>) -> Result<(), AllocError>
         ensures ok { OnOk result (out.new.items ≡ out.old.items ++ tokens_of self.now line.now) }
         ensures err { OnErr result (out.new.items ≡ out.old.items) }
         ensures table { is_table self.now ≡ true }
     {
-        // What it holds is a table.
+        // The invariant shows that the pairs are a table.
         let _texts = &self.texts;
         let count = out.len();
         let scanned = self.push_tokens(line, out);
@@ -93,7 +94,7 @@ impl BracketTable {
         scanned
     }
 
-    // On want of memory some of the tokens were pushed.
+    // If memory is short, some of the tokens may have been appended.
     fn push_tokens(&self, line: &[u16], out: &mut Vec<Token>) -> Result<(), AllocError>
         ensures ok { OnOk result (out.new.items ≡ out.old.items ++ tokens_of self.now line.now) }
         ensures err { OnErr result (take (length out.old.items) out.new.items ≡ out.old.items) }
@@ -111,7 +112,7 @@ impl BracketTable {
         Ok(())
     }
 
-    // The longest text of the table at the front of the units, as a token at place `at`.
+    // Returns the longest text of the table with which the units begin, as a token at position `at`.
     fn longest(&self, at: u64, units: &[u16]) -> Option<Token>
         requires { 0 < length units.now }
         ensures longest { result ≡ longest at 0 self.now units.now }
@@ -160,7 +161,7 @@ fn starts_of(alloc: Global, pairs: &[(Units, Units)]) -> Result<Vec<Vec<Start>>,
     Ok(starts)
 }
 
-// The bracket of the standard table that this unit is.
+// Returns the token of the standard table for this unit; None if the unit is not a bracket.
 fn standard_token(at: u64, unit: u16) -> Option<Token>
     ensures { (units : List ℕ) → result ≡ longest at 0 standard_table (unit ∷ units) }
 {

@@ -1,4 +1,4 @@
--- What adds up over trees: a list shows what its nodes show, joined in their order.
+-- Additive properties of trees: a list has the joined properties of its nodes, in their order.
 use Rattle.std.proofs.Common.{◌≡◌, List, [], ◌∷◌, ◌++◌, refl, ap, sym, ◌∙◌, append_assoc}
 use Rattle.std.proofs.lemmas.List.{append-nil}
 use Rattle.text_lengths.specs.declared.Length.{Length}
@@ -7,7 +7,7 @@ use Rattle.text_lengths.proofs.Lengths.{plus_none, none_plus, length_plus_assoc}
 use Rattle.bracket_tree_rules.specs.Tree.{Tree, text, pair, stray, capped, nothing, two, three, tree_length, items, all_items}
 use Rattle.bracket_tree_rules.specs.Items.{all_length, spread}
 
--- what one tree shows, and what trees show together
+-- a property of one tree, and the joint property of several trees
 pub record AddsUp {X : Type 0} (join : X → X → X) (of : Tree → X) (all : List Tree → X) : Type 0 where
   pub one_more : (t : Tree) (ts : List Tree) → all (t ∷ ts) ≡ join (of t) (all ts)
   pub none_before : (ts : List Tree) → join (all []) (all ts) ≡ all ts
@@ -51,7 +51,7 @@ module _ {X : Type 0} {join : X → X → X} {of : Tree → X} {all : List Tree 
       let third = added-items c in
       cc
 
-  -- many trees, by their items together
+  -- several trees, by the items of all of them
   pub added-all_items : (ts : List Tree) → all (all_items ts) ≡ all ts
   added-all_items [] = refl
   added-all_items (t ∷ ts) =

@@ -1,4 +1,4 @@
--- The walk down to the bracket at a place: of the parts of a list only one has brackets there.
+-- The walk down to the bracket at a place: at most one part of a list has brackets there.
 use Rattle.std.proofs.Common.{◌≡◌, ◌≢◌, ℕ, ◌<◌, ◌⊎◌, Bool, true, false, Option, Some, None, List, [], ◌∷◌, ◌++◌, refl, ap, sym, ◌∙◌, subst, arith, inl, inr}
 use Rattle.text_lengths.specs.declared.Length.{Length}
 use Rattle.text_lengths.specs.Length.{length_plus, is_before}
@@ -20,7 +20,7 @@ closing_from : (p : Length) (k : ℕ) (c : Option ℕ) (b : Bracket) → IsAmong
 closing_from p k None b h = elim h [ ]
 closing_from p k (Some w) b h = lone_from p w k false b h
 
--- no bracket starts before the tree that it stands in
+-- no bracket of a tree starts before the tree
 pub bracket_from : (p : Length) (t : Tree) (b : Bracket) → HasBracket p t b → is_before b.place p ≡ false
 bracket_from p (text l) b none = elim none [ ]
 bracket_from p (pair k o i c) b (inl first) = ap (λ (x : Bracket). is_before x.place p) first ∙ not_before_itself p
@@ -64,7 +64,7 @@ closing_ends : (p : Length) (k : ℕ) (c : Option ℕ) (b : Bracket) → IsWidth
 closing_ends p k None b h none = elim none [ ]
 closing_ends p k (Some w) b h last = lone_ends p w k false b h last
 
--- a bracket starts before the end of the tree that it stands in
+-- every bracket of a tree starts before the end of the tree
 pub bracket_ends : (p : Length) (t : Tree) (b : Bracket) → IsTree t → HasBracket p t b → is_before b.place (length_plus p (tree_length t)) ≡ true
 bracket_ends p (text l) b h none = elim none [ ]
 bracket_ends p (pair k o i c) b h (inl first) =
@@ -99,7 +99,7 @@ bracket_ends p (three x y z) b h there =
       ]
     ])
 
--- a part that starts behind the place, or that ends at the place or before it, has no bracket there
+-- a part that starts after the place, or ends at or before it, has no bracket there
 none_behind : (p : Length) (t : Tree) (q : Length) → is_before q p ≡ true → NoBracketAt p t q
 none_behind p t q h b there same =
     not_both (is_before q p) h (ap (λ (x : Length). is_before x p) (sym same) ∙ bracket_from p t b there)
@@ -111,7 +111,7 @@ none_passed p t q tree h b there same =
 
 -- ---- the one part whose brackets count
 
--- each bracket of the part is one of the tree's, and each of the tree's at place q is one of the part's
+-- every bracket of the part belongs to the tree, and every bracket of the tree at place q belongs to the part
 record OnlyIn (p : Length) (t : Tree) (r : Length) (part : Tree) (q : Length) : Type 0 where
   up : (b : Bracket) → HasBracket r part b → HasBracket p t b
   down : (b : Bracket) → HasBracket p t b → b.place ≡ q → HasBracket r part b
@@ -207,7 +207,7 @@ bracket_in_second p x y q found tree e h =
         elim (IsAmong-append b (tree_tokens p x) (tree_tokens (length_plus p (tree_length x)) y) there)
         [ inl in_x ↦ absurd (none_passed p x q tree e b in_x same) | inr in_y ↦ in_y ]
 
--- the tokens of three parts are those of the first, and of a list of the others
+-- a list of three parts has the brackets of a list of the first and a list of the other two
 of_three : (p : Length) (x y z : Tree) (q : Length) (found : Option Token) → IsBracketFound p (two x (two y z)) q found → IsBracketFound p (three x y z) q found
 of_three p x y z q None h = h
 of_three p x y z q (Some found) h = record { stands = h.stands; column = h.column }

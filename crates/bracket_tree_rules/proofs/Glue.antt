@@ -1,4 +1,4 @@
--- Rows glued: an associative operation with a unit, which adds lengths and puts brackets one after another.
+-- Glueing rows is an associative operation with a unit; lengths add up, and the brackets follow one another.
 use Rattle.std.proofs.Common.{◌≡◌, ℕ, zero, suc, ◌+◌, Bool, true, false, Option, Some, None, List, [], ◌∷◌, ◌++◌, refl, ap, sym, ◌∙◌, arith, append_assoc, add_assoc, add-zero, zero-add}
 use Rattle.std.proofs.lemmas.List.{append-nil}
 use Rattle.std.proofs.lemmas.Grind.{common_steps}

@@ -1,4 +1,4 @@
--- What a tree shows is what its items show, one after another.
+-- The properties of a tree are those of its items, one after another.
 use Rattle.std.proofs.Common.{◌≡◌, ℕ, ◌||◌, List, [], ◌∷◌, ◌++◌, refl, ap, sym, ◌∙◌}
 use Rattle.std.proofs.Math.Bool.{or-false, or_assoc}
 use Rattle.text_lengths.specs.declared.Length.{Length}

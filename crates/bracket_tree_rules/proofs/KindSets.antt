@@ -34,7 +34,7 @@ has_kind-with_kind kinds k j h = elim (eqb_tells j k) [
   | inr differ ↦ has_kind-with_other kinds k j differ.1 ∙ h
 ]
 
--- two sets have no kind in common where their bits have none
+-- two sets are disjoint if their bits are
 has_kind-apart : (a b k : ℕ) → min (bit_at a k) (bit_at b k) ≡ 0 → has_kind a k ≡ true → has_kind b k ≡ false
 has_kind-apart a b k h e = grind (arith, nat_tests, common_steps)
 
@@ -67,7 +67,7 @@ depth_of-same : (b : Bracket) (stack : List Bracket) (j : ℕ)
     → eqb b.kind j ≡ true → is_some (depth_of j (b ∷ stack)) ≡ true
 depth_of-same b stack j h = rw h refl
 
--- a bracket of kind k opens
+-- the stack after an opening bracket of kind k
 pub IsStack-push : (kinds level : ℕ) (b : Bracket) (stack : List Bracket)
     → IsStack kinds level stack → IsStack (with_kind kinds b.kind) (suc level) (b ∷ stack)
 IsStack-push kinds level b stack h = record {

@@ -1,4 +1,5 @@
--- What the leaves of a tree weigh in the lines from a place on, and how a node's leaves are parted from those about it.
+-- The weight of the leaves of a tree in the lines from a place on, and how a node's leaves are separated from the
+-- others.
 use Rattle.std.proofs.Common.{◌≡◌, ℕ, zero, suc, ◌+◌, ◌<◌, ◌≤◌, inl, inr, List, [], ◌∷◌, ◌++◌, refl, ap, sym, ◌∙◌, arith, zero-add}
 use Rattle.std.specs.Prelude.{⊤}
 use Rattle.std.proofs.lemmas.Bool.{cases_lt, ne_eqb, eq-eqb, le-leb, lt-leb, le-ltb}
@@ -10,12 +11,12 @@ use Rattle.bracket_tree_rules.specs.Leaves.{Leaf, leaf_weight, weight_from, weig
 
 -- ---- places
 
--- place p is place q, or stands behind it
+-- place p is at or after place q
 pub record IsBehind (q p : Length) : Type 0 where
   pub lines : q.lines ≤ p.lines
   pub columns : p.lines ≤ q.lines → q.columns ≤ p.columns
 
--- place p stands before place q
+-- place p is before place q
 pub record IsAhead (q p : Length) : Type 0 where
   pub lines : p.lines ≤ q.lines
   pub columns : q.lines ≤ p.lines → p.columns < q.columns
@@ -73,7 +74,7 @@ leaf_ahead q l h =
       | inr here ↦ before_column q l (let a = h.lines in omega arith) (h.columns here)
     ]
 
--- a leaf behind a place weighs there what it weighs from an earlier column on
+-- a leaf after a place has the same weight there as from an earlier column of the line
 leaf_behind : (p q : Length) (l : Leaf) → p.lines ≡ q.lines → p.columns ≤ q.columns → IsBehind q l.place → leaf_weight p l ≡ leaf_weight q l
 leaf_behind p q l e c h =
     elim (cases_lt q.lines l.place.lines) [
@@ -94,7 +95,7 @@ abbrev pub AreAhead : Length → List Leaf → Type 0
 AreAhead q [] = ⊤
 AreAhead q (l ∷ ls) = IsAhead q l.place × AreAhead q ls
 
--- the leaves start in this line or before it
+-- the leaves start in this line or an earlier one
 abbrev pub AreUpTo : ℕ → List Leaf → Type 0
 AreUpTo line [] = ⊤
 AreUpTo line (l ∷ ls) = (l.place.lines ≤ line) × AreUpTo line ls
@@ -145,7 +146,7 @@ weight_behind p q (l ∷ ls) e c h = omega (arith, leaf_behind p q l e c h.0, we
 
 -- ---- line by line
 
--- leaves that all stand before the lines that follow weigh nothing there
+-- leaves that start before the lines from q on have no weight there
 weights_after : (q : Length) (line lines : ℕ) (a b : List Leaf) → AreUpTo line a → line < q.lines
     → weights_from q lines (a ++ b) ≡ weights_from q lines b
 weights_after q line zero a b h k =
@@ -167,7 +168,7 @@ weights_ahead q (suc lines) a b h =
     weights_after (next_line q) q.lines lines a b (AreUpTo-ahead q a h) (omega arith) in
     cc
 
--- the same lines from another place of the first line on
+-- the weights of the lines are the same from an earlier column of the first line
 weights_behind : (p q : Length) (lines : ℕ) (ls : List Leaf) → p.lines ≡ q.lines → p.columns ≤ q.columns → AreBehind q ls
     → weights_from p lines ls ≡ weights_from q lines ls
 weights_behind p q zero ls e c h = ap (λ (n : ℕ). n ∷ []) (weight_behind p q ls e c h)
@@ -177,7 +178,7 @@ weights_behind p q (suc lines) ls e c h =
     let rest : weights_from (next_line p) lines ls ≡ weights_from (next_line q) lines ls = ap (λ (x : Length). weights_from x lines ls) line in
     cc
 
--- leaves up to the line of place q, and then leaves from q on
+-- leaves up to the line of place q, followed by leaves from q on
 pub weights-glue : (p q : Length) (before lines : ℕ) (a b : List Leaf) → q.lines ≡ p.lines + before → IsBehind p q → AreUpTo q.lines a → AreBehind q b
     → weights_from p (before + lines) (a ++ b) ≡ glue_weights (weights_from p before a) (weights_from q lines b)
 weights-glue p q zero lines a b e s h k =

@@ -39,7 +39,7 @@ level_before-told p stack b unexpected s =
 pub not_before_later : (p q r : Length) → is_before q p ≡ false → is_before r q ≡ false → is_before r p ≡ false
 not_before_later p q r h k = grind (arith, nat_tests)
 
--- the brackets stand in order, from p on and up to q
+-- the brackets are in order, between p and q
 pub IsWithin : Length → Length → List Bracket → Type 0
 IsWithin p q [] = is_before q p ≡ false
 IsWithin p q (b ∷ rest) = (is_before b.place p ≡ false) × IsWithin b.place q rest
@@ -105,7 +105,7 @@ IsWithin-tree p (three a b c) =
 
 -- ---- the level
 
--- no bracket from q on starts before p
+-- brackets at or after q do not start before p
 stack_before-past : (p q r : Length) (stack bs : List Bracket) → is_before q p ≡ false → IsWithin q r bs → stack_before p stack bs ≡ stack
 unfolding IsWithin
 stack_before-past p q r stack [] h k = refl

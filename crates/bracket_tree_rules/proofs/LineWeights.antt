@@ -1,4 +1,4 @@
--- The laws of weights line by line: glued weights, what covers them, and their sums.
+-- The laws of weights line by line: glued weights, coverings, and sums.
 use Rattle.std.proofs.Common.{◌≡◌, ℕ, zero, suc, ◌+◌, ◌≤◌, true, Option, Some, None, List, [], ◌∷◌, ◌++◌, length, get_or, sum, refl, ap, sym, ◌∙◌, subst, arith, add-zero, zero-add, add_assoc}
 use Rattle.std.specs.Prelude.{⊤}
 use Rattle.std.proofs.lemmas.List.Sums.{sum_by-cons}
@@ -8,7 +8,7 @@ use Rattle.bracket_tree_rules.specs.Tree.{Tree, text, pair, stray, capped, nothi
 use Rattle.bracket_tree_rules.specs.Weights.{glue_weights, gap_weights, tree_weights, all_weights, AreCovered}
 use Rattle.bracket_tree_rules.proofs.Adding.{AddsUp, added-append, added-items}
 
--- every text has a line
+-- every text has at least one line
 abbrev pub HasWeight : List ℕ → Type 0
 HasWeight [] = ⊥
 HasWeight (w ∷ ws) = ⊤
@@ -98,7 +98,7 @@ AreCovered-sum [] (v ∷ vs) h = elim h [ ]
 AreCovered-sum (w ∷ ws) [] h = elim h [ ]
 AreCovered-sum (w ∷ ws) (v ∷ vs) h = let first : w ≤ v = h.0 in omega (arith, AreCovered-sum ws vs h.1, sum-cons w ws, sum-cons v vs)
 
--- one part after another: what is left behind the first covers what follows
+-- two parts one after the other: the rest after the first covers the second and its rest
 pub covered_after : (a b c rest old : List ℕ) → AreCovered (glue_weights a rest) old → AreCovered (glue_weights b c) rest
     → AreCovered (glue_weights (glue_weights a b) c) old
 covered_after a b c rest old h k =

@@ -1,4 +1,4 @@
--- The walk down to the longest node at a place: of the parts of a list only one has nodes there that may be taken.
+-- The walk down to the longest node at a place: at most one part of a list has nodes there that may be taken.
 use Rattle.std.proofs.Common.{◌≡◌, ℕ, ◌<◌, Bool, true, false, Option, Some, None, refl, ap, sym, ◌∙◌, subst, arith, inl, inr}
 use Rattle.std.proofs.lemmas.Bool.Decides.{nat_tests}
 use Rattle.std.proofs.lemmas.Grind.{common_steps}
@@ -44,7 +44,7 @@ gap_units : (l : Length) → IsGap l → 0 < units_of l
 gap_units l (inl h) = omega arith
 gap_units l (inr h) = omega arith
 
--- a tree that is not nothing has a length
+-- a non-empty tree has a positive length
 tree_units : (t : Tree) → IsTree t → is_nothing t ≡ false → 0 < units_of (tree_length t)
 tree_units (text l) h e = gap_units l h
 tree_units (pair k o i c) h e =
@@ -58,7 +58,7 @@ tree_units (three a b c) h e =
     units_plus (length_plus (tree_length a) (tree_length b)) (tree_length c)
     (units_plus (tree_length a) (tree_length b) (tree_units a h.1.0 h.0.0.first))
 
--- what starts before a part of a pair ends starts before the pair ends
+-- a place before the end of the closing bracket is before the end of the pair
 pub before_pair_end : (q p : Length) (k o : ℕ) (i : Tree) (c : Option ℕ) → is_before q (length_plus (inside_end p o i) (wide (width_of c))) ≡ true
     → is_before q (length_plus p (tree_length (pair k o i c))) ≡ true
 before_pair_end q p k o i c h =
@@ -81,7 +81,7 @@ before_three_end q p a b c h =
 here_from : (p : Length) (t : Tree) (q : Length) (n : Tree) → IsHere p t q n → is_before q p ≡ false
 here_from p t q n h = ap (λ (x : Length). is_before x p) h.place ∙ not_before_itself p
 
--- no node starts before the tree that it stands in
+-- no node of a tree starts before the tree
 pub node_from : (p : Length) (t : Tree) (q : Length) (n : Tree) → HasNode p t q n → is_before q p ≡ false
 node_from p (text l) q n here = here_from p (text l) q n here
 node_from p (pair k o i c) q n (inl here) = here_from p (pair k o i c) q n here
@@ -108,7 +108,7 @@ here_ends p t q n h e here =
     ap (λ (x : Length). is_before x (length_plus p (tree_length t))) here.place
     ∙ before_units p (tree_length t) (tree_units t h (ap is_nothing (sym here.node) ∙ e))
 
--- a node that is not nothing starts before the end of the tree that it stands in
+-- a non-empty node of a tree starts before the end of the tree
 pub node_ends : (p : Length) (t : Tree) (q : Length) (n : Tree) → IsTree t → is_nothing n ≡ false → HasNode p t q n
     → is_before q (length_plus p (tree_length t)) ≡ true
 node_ends p (text l) q n h e here = here_ends p (text l) q n h e here
@@ -141,7 +141,7 @@ node_ends p (three a b c) q n h e (inr (inr (inr in_c))) =
 here_not_longer : (p : Length) (t : Tree) (q : Length) (n : Tree) → IsHere p t q n → is_before (tree_length t) (tree_length n) ≡ false
 here_not_longer p t q n h = ap (λ (x : Tree). is_before (tree_length t) (tree_length x)) h.node ∙ not_before_itself (tree_length t)
 
--- l is not longer than a front or a rest, which is not longer than the whole
+-- a length at most as long as a prefix or a suffix is at most as long as the whole
 in_front : (l a b : Length) → is_before a l ≡ false → is_before (length_plus a b) l ≡ false
 in_front l a b h = not_before_later l a (length_plus a b) h (front_not_longer a b)
 
@@ -174,7 +174,7 @@ no_longer p (three a b c) q n (inr (inr (inr in_c))) =
 
 -- ---- the tree itself
 
--- the tree is a node of its own
+-- the tree is one of its own nodes
 pub node_itself : (p : Length) (t : Tree) → HasNode p t p t
 node_itself p (text l) = record { node = refl; place = refl }
 node_itself p (pair k o i c) = inl (record { node = refl; place = refl })
@@ -192,14 +192,14 @@ longest_here p t q lines kinds level h = record {
   longest = λ m there taken. no_longer p t q m there;
 }
 
--- where the tree itself is not taken, nor is a node that is the tree
+-- if the tree itself may not be taken here, neither may a node that is the tree
 pub not_here : (p : Length) (t : Tree) (q : Length) (lines kinds level : ℕ) (n : Tree) → (IsTakenHere p t q lines kinds level → ⊥)
     → IsHere p t q n → MayBeTaken lines kinds level n → ⊥
 not_here p t q lines kinds level n none here taken = none (sym here.place, subst (MayBeTaken lines kinds level) here.node taken)
 
 -- ---- the one part whose nodes count
 
--- of the tree's nodes at place q only those of this part, which starts at place r, may be taken
+-- of the tree's nodes at place q, only those of this part, which starts at place r, may be taken
 record OnlyIn (p : Length) (t : Tree) (r : Length) (part : Tree) (q : Length) (lines kinds level : ℕ) : Type 0 where
   up : (n : Tree) → HasNode r part q n → HasNode p t q n
   down : (n : Tree) → HasNode p t q n → MayBeTaken lines kinds level n → HasNode r part q n
@@ -213,7 +213,7 @@ found_by p t r part q lines kinds level (Some n) only h = record {
   longest = λ m there taken. h.longest m (only.down m there taken) taken;
 }
 
--- a node of a part that starts behind the place, or that ends at the place or before it, is none of those
+-- a part that starts after the place, or ends at or before it, has no such node
 not_behind : (p : Length) (t : Tree) (q : Length) (n : Tree) → is_before q p ≡ true → HasNode p t q n → ⊥
 not_behind p t q n h there = not_both (is_before q p) h (node_from p t q n there)
 

@@ -1,4 +1,5 @@
--- A node's leaves, or a bracket's, stand together among those of its tree, and what they leave of their line.
+-- The leaves of a node, or of a bracket, are consecutive among those of its tree, and the weight they leave of their
+-- line.
 use Rattle.std.proofs.Common.{◌≡◌, ℕ, ◌+◌, ◌<◌, ◌≤◌, inl, inr, Bool, true, false, Option, Some, None, List, [], ◌∷◌, ◌++◌, refl, ap, sym, ◌∙◌, subst, arith, append_assoc, add-zero}
 use Rattle.std.proofs.lemmas.List.{append-nil}
 use Rattle.text_lengths.specs.declared.Length.{Length}
@@ -15,7 +16,7 @@ use Rattle.bracket_tree_rules.proofs.TreeLeaves.{closing_behind, leaves_behind, 
 
 -- ---- what stands among the leaves
 
--- these leaves from place q to place r stand among the whole, from place p to place e
+-- the leaves `ls`, from place q to place r, are consecutive leaves of the whole, which reaches from place p to place e
 pub record Parted (p e : Length) (whole : List Leaf) (q r : Length) (ls : List Leaf) : Type 0 where
   pub before : List Leaf
   pub after : List Leaf
@@ -62,7 +63,7 @@ parted_back o p e front whole q r ls s h k = record {
   ends = s.ends;
 }
 
--- a whole tree, of which a part of the leaves stands in a part of it
+-- from the leaves of a part to those of the whole tree
 
 parted_first : (p : Length) (a b : Tree) (q r : Length) (ls : List Leaf) → Parted p (length_plus p (tree_length a)) (leaves p a) q r ls
     → Parted p (length_plus p (tree_length (two a b))) (leaves p (two a b)) q r ls
@@ -81,7 +82,7 @@ parted_second p a b q r ls t s =
     subst (λ (x : Length). Parted p x (leaves p (two a b)) q r ls) (length_plus_assoc p (tree_length a) (tree_length b))
     (parted_back p m f (leaves p a) (leaves m b) q r ls s (leaves_ahead p a t) (behind_plus p (tree_length a)))
 
--- three parts as two, the second of which has two
+-- a list of three parts as a list of two, the second of which is a list of two
 three_as_two : (p : Length) (a b c : Tree) (q r : Length) (ls : List Leaf) → Parted p (length_plus p (tree_length (two a (two b c)))) (leaves p (two a (two b c))) q r ls
     → Parted p (length_plus p (tree_length (three a b c))) (leaves p (three a b c)) q r ls
 three_as_two p a b c q r ls s =
@@ -134,7 +135,7 @@ here p t q n h =
     (subst (λ (x : Tree). Parted p (length_plus p (tree_length t)) (leaves p t) p (length_plus p (tree_length x)) (leaves p x)) (sym h.node)
     (parted_alone p (length_plus p (tree_length t)) (leaves p t)))
 
--- a node's leaves stand among those of the tree
+-- a node's leaves are consecutive leaves of the tree
 pub node_parted : (p : Length) (t : Tree) (q : Length) (n : Tree) → IsTree t → HasNode p t q n
     → Parted p (length_plus p (tree_length t)) (leaves p t) q (length_plus q (tree_length n)) (leaves q n)
 node_parted p (text l) q n t h = here p (text l) q n h
@@ -165,7 +166,7 @@ node_parted p (three a b c) q n t (inr (inr (inr h))) =
     (parted_second p a (two b c) q r (leaves q n) t.1.0
     (parted_second m b c q r (leaves q n) t.1.1.0 (node_parted (length_plus m (tree_length b)) c q n t.1.1.1 h)))
 
--- the leaf of a bracket that is this one
+-- the leaf of a bracket that equals the given one
 lone : (o p : Length) (w : ℕ) (first b : Bracket) (whole : List Leaf) (e : Length) → b ≡ first → first.place ≡ p → first.len ≡ w
     → Parted o e whole p (length_plus p (wide w)) (leaf p w ∷ [])
     → Parted o e whole b.place (length_plus b.place (wide b.len)) (leaf b.place b.len ∷ [])
@@ -196,7 +197,7 @@ closing_among p k o i (Some w) b t (inl h) =
     (parted_closing p k o i w t.0.opening t.1)
 closing_among p k o i (Some w) b t (inr h) = elim h [ ]
 
--- a bracket's leaf stands among those of the tree
+-- a bracket's leaf is one of the leaves of the tree
 pub bracket_parted : (p : Length) (t : Tree) (b : Bracket) → IsTree t → HasBracket p t b → BracketParted p t b
 bracket_parted p (text l) b t h = elim h [ ]
 bracket_parted p (pair k o i c) b t (inl h) =
@@ -237,7 +238,7 @@ bracket_parted p (three x y z) b t h =
 
 -- ---- what is left
 
--- behind the leaves of a part only those after it weigh
+-- after the leaves of a part only those after it have weight
 left_behind : (p e : Length) (whole : List Leaf) (q r : Length) (ls : List Leaf) (s : Parted p e whole q r ls) → IsBehind q r → AreAhead r ls
     → weight_from r whole ≡ weight_from r s.after
 left_behind p e whole q r ls s h k =
@@ -250,7 +251,8 @@ left_behind p e whole q r ls s h k =
       weight_ahead r ls k,
     )
 
--- the lines from a node's place on, as many as it has breaks, are its own lines and what it leaves of the last
+-- the lines from a node's place on, one more than its breaks: the node's own lines, and the weight left after it in
+-- the last
 pub node_weighs : (t : Tree) (q : Length) (n : Tree) → IsTree t → HasNode no_length t q n
     → weights_from q (tree_length n).lines (leaves no_length t)
     ≡ glue_weights (tree_weights n) (weight_left t (length_plus q (tree_length n)) ∷ [])
@@ -271,7 +273,7 @@ node_weighs t q n is h =
     ∙ ap (λ (x : List ℕ). glue_weights x (weight_from r s.after ∷ [])) (leaves_weigh q n tree)
     ∙ ap (λ (x : ℕ). glue_weights (tree_weights n) (x ∷ [])) (sym left)
 
--- a bracket leaves its line that much less
+-- after a bracket the weight left of its line is less by its width
 pub bracket_weighs : (t : Tree) (b : Bracket) → IsTree t → HasBracket no_length t b → 0 < b.len
     → weight_left t b.place ≡ b.len + weight_left t (length_plus b.place (wide b.len))
 bracket_weighs t b is h some =
@@ -297,6 +299,6 @@ bracket_weighs t b is h some =
       left,
     )
 
--- the lines of a tree weigh what its leaves do
+-- the lines of a tree have the weight of its leaves
 pub lines_weigh : (t : Tree) → IsTree t → weights_from no_length (tree_length t).lines (leaves no_length t) ≡ tree_weights t
 lines_weigh t is = leaves_weigh no_length t is

@@ -1,4 +1,5 @@
--- What is found in the part that holds a place is found in the tree; where no part holds it, nothing is.
+-- A node or bracket found in the part that holds a place is found in the tree; if no part holds the place, none is
+-- found.
 use Rattle.std.proofs.Common.{◌≡◌, ◌≢◌, ℕ, ◌+◌, ◌<◌, ◌≤◌, ◌^◌, true, false, Option, ◌++◌, refl, ap, sym, ◌∙◌, subst, arith, inl, inr}
 use Rattle.std.proofs.lemmas.Bool.Decides.{nat_tests}
 use Rattle.text_lengths.specs.declared.Length.{Length}
@@ -17,7 +18,7 @@ use Rattle.bracket_tree_rules.proofs.BracketAt.{bracket_from, bracket_ends, befo
 
 -- ---- what is here
 
--- what holds of a tree where it stands holds of the node that is here, and the other way round
+-- a property of the tree at its place holds for a node equal to it there, and conversely
 of_here : (P : Length → Tree → Type 0) (p : Length) (t : Tree) (r : Length) (n : Tree) → IsHere p t r n → P p t → P r n
 of_here P p t r n here h = subst (λ (x : Length). P x n) (sym here.place) (subst (P p) (sym here.node) h)
 
@@ -35,7 +36,7 @@ held_here q p t r n is h = by_here (λ (x : Length) (y : Tree). Holds x y q) p t
 start_of_part : (p : Length) (t : Tree) (r : Length) (part : Tree) → IsHere p t r part → is_before r p ≡ false
 start_of_part p t r part is = ap (λ (x : Length). is_before x p) is.place ∙ not_before_itself p
 
--- a part starts no earlier than the tree
+-- no part starts before the tree
 part_starts : (p : Length) (t : Tree) (r : Length) (part : Tree) → IsPart p t r part → is_before r p ≡ false
 part_starts p (text l) r part none = elim none [ ]
 part_starts p (pair k o i c) r part is =
@@ -54,7 +55,7 @@ part_starts p (three a b c) r part (inr (inr is)) =
     not_before_front r p (tree_length a) (not_before_front r s (tree_length b)
     (start_of_part (length_plus s (tree_length b)) c r part is))
 
--- what starts before a part ends starts before the tree ends
+-- a place that a part holds is before the end of the tree
 part_ends : (q p : Length) (t : Tree) (r : Length) (part : Tree) → IsPart p t r part → Holds r part q
     → is_before q (length_plus p (tree_length t)) ≡ true
 part_ends q p (text l) r part none h = elim none [ ]
@@ -78,7 +79,7 @@ part_ends q p (three a b c) r part (inr (inl is)) h =
 part_ends q p (three a b c) r part (inr (inr is)) h =
     before_three_end q p a b c (held_here q (length_plus (length_plus p (tree_length a)) (tree_length b)) c r part is h).ends
 
--- the tree holds what a part of it holds
+-- the tree holds every place that a part of it holds
 pub part_held : (q p : Length) (t : Tree) (r : Length) (part : Tree) → IsPart p t r part → Holds r part q → Holds p t q
 part_held q p t r part is h = record {
   from = not_before_later p r q (part_starts p t r part is) h.from;
@@ -89,7 +90,7 @@ within_here : (p : Length) (t : Tree) (r : Length) (part : Tree) (most : ℕ) �
     → r.lines + r.columns + weight part ≤ most
 within_here p t r part most is h = of_here (λ (x : Length) (y : Tree). x.lines + x.columns + weight y ≤ most) p t r part is h
 
--- a part's place and weight do not pass the tree's
+-- place and weight of a part together are at most those of the tree
 pub part_within : (p : Length) (t : Tree) (r : Length) (part : Tree) → IsPart p t r part
     → r.lines + r.columns + weight part ≤ p.lines + p.columns + weight t
 part_within p (text l) r part none = elim none [ ]

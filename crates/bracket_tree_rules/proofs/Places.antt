@@ -1,4 +1,4 @@
--- What stands at a place of a tree takes its rows from there on, and where it ends something else begins.
+-- A node or bracket of a tree takes its rows from its place on, and where it ends the next one begins or the tree ends.
 use Rattle.std.proofs.Common.{◌≡◌, ℕ, zero, suc, ◌+◌, ◌-◌, ◌<◌, ◌≤◌, ◌⊎◌, Bool, true, false, Option, Some, None, List, [], ◌∷◌, ◌++◌, drop, refl, ap, sym, ◌∙◌, subst, arith, inl, inr}
 use Rattle.std.proofs.lemmas.Bool.{lt-ltb, le-ltb, cases_lt}
 use Rattle.text_lengths.specs.declared.Length.{Length}
@@ -48,7 +48,7 @@ lines-under r x rows = refl
 from-under : (r : Row) (m : List Row) (n column : ℕ) → from_column column (drop (suc n) (r ∷ m)) ≡ from_column column (drop n m)
 from-under r m n column = refl
 
--- behind what stands before a place come the rows from that place on
+-- after the rows before a place come the rows from that place on
 pub rows_from-glue : (before rest : List Row) → HasRow before → HasRow rest → IsBounded before
     → rows_from (rows_length before) (glue before rest) ≡ rest
 rows_from-glue [] rest h k b = elim h [ ]
@@ -112,7 +112,7 @@ IsBounded-tree (three a b c) h =
 
 -- ---- rows that stand among others
 
--- these rows stand at place q among the whole, which begins at place p
+-- these rows are at place q in the whole, which begins at place p
 record Stands (whole : List Row) (p q : Length) (rows : List Row) : Type 0 where
   before : List Row
   after : List Row
@@ -133,7 +133,7 @@ stand_alone p rows h = record {
   bounded = tt;
 }
 
--- with more rows behind the whole
+-- with more rows after the whole
 stand_before : (whole more : List Row) (p q : Length) (rows : List Row) → Stands whole p q rows → Stands (glue whole more) p q rows
 stand_before whole more p q rows s = record {
   before = s.before;
@@ -232,7 +232,7 @@ closing_stands : (b : Bracket) (p : Length) (k : ℕ) (c : Option ℕ) → IsAmo
 closing_stands b p k None h = elim h [ ]
 closing_stands b p k (Some w) h = one_stands b p w k false h
 
--- behind the opening bracket and what is inside
+-- after the opening bracket and the content
 at_closing : (k o : ℕ) (i : Tree) (c : Option ℕ) (p q : Length) (rows : List Row) → IsTree (pair k o i c)
     → Stands (closing_rows k c) (inside_end p o i) q rows → Stands (tree_rows (pair k o i c)) p q rows
 at_closing k o i c p q rows h s =
@@ -278,7 +278,7 @@ bracket_stands p (three x y z) b h there =
 
 -- ---- the rows from a place on, where something stands there
 
--- from the place on the whole has these rows, and behind them comes what stands from their end on
+-- from place q on the whole has these rows, followed by the rows from their end on
 pub record Begins (whole : List Row) (q : Length) (rows : List Row) : Type 0 where
   pub here : rows_from q whole ≡ glue rows (rows_from (length_plus q (rows_length rows)) whole)
   pub rest : HasRow (rows_from (length_plus q (rows_length rows)) whole)
@@ -337,7 +337,7 @@ pub IsAmong-right : (b : Bracket) (xs ys : List Bracket) → IsAmong b ys → Is
 IsAmong-right b [] ys h = h
 IsAmong-right b (x ∷ xs) ys h = inr (IsAmong-right b xs ys h)
 
--- an edge of a part that more follows is one of the whole
+-- an edge of a part is an edge of the whole, if the end of the part is
 edge_then : (p : Length) (t part : Tree) (at q : Length) → ((l : Length) → HasNode at part q (text l) → HasNode p t q (text l))
     → ((b : Bracket) → HasBracket at part b → HasBracket p t b) → IsEdge p t (length_plus at (tree_length part)) → IsEdge at part q → IsEdge p t q
 edge_then p t part at q nodes brackets next (at_text l n) = at_text l (nodes l n)
@@ -408,11 +408,11 @@ edge_at_start p (three a b c) =
     edge_in_front a b c p p (edge_at_start (length_plus (length_plus p (tree_length a)) (tree_length b)) c)
     (edge_at_start (length_plus p (tree_length a)) b) (edge_at_start p a)
 
--- where a tree ends, it ends
+-- the end of the tree itself is an edge
 edge_at_end : (p : Length) (t : Tree) (q : Length) (n : Tree) → IsHere p t q n → IsEdge p t (length_plus q (tree_length n))
 edge_at_end p t q n h = at_end (ap (λ (x : Length). length_plus x (tree_length n)) h.place ∙ ap (λ (x : Tree). length_plus p (tree_length x)) h.node)
 
--- where a node ends, something else starts or the tree ends
+-- the end of a node is an edge: the next text or bracket starts there, or the tree ends
 pub edge_after_node : (p : Length) (t : Tree) (q : Length) (n : Tree) → HasNode p t q n → IsEdge p t (length_plus q (tree_length n))
 edge_after_node p (text l) q n here = edge_at_end p (text l) q n here
 edge_after_node p (pair k o i c) q n (inl here) = edge_at_end p (pair k o i c) q n here
@@ -451,7 +451,7 @@ edge_after_closing b p k o i (Some w) (inl first) =
     ∙ ap (λ (x : Length). length_plus x (wide w)) (length_plus_assoc p (wide o) (tree_length i))
     ∙ length_plus_assoc p (length_plus (wide o) (tree_length i)) (wide w))
 
--- where a bracket ends too
+-- so is the end of a bracket
 pub edge_after_bracket : (p : Length) (t : Tree) (b : Bracket) → HasBracket p t b → IsEdge p t (length_plus b.place (wide b.len))
 edge_after_bracket p (text l) b none = elim none [ ]
 edge_after_bracket p (pair k o i c) b (inl first) =
@@ -483,7 +483,7 @@ edge_after_bracket p (three x y z) b h =
       ]
     ]
 
--- lines start at edges: a text does not go on behind a break
+-- lines start at edges: no text continues after a break
 pub edge_at_line : (p : Length) (t : Tree) (line : ℕ) → IsTree t → p.lines < line → line ≤ p.lines + (tree_length t).lines → IsEdge p t (length_of line 0)
 edge_at_line p (text l) line (inl in_line) h k = absurd (let none : l.lines ≡ 0 = in_line.0 in omega arith)
 edge_at_line p (text l) line (inr break) h k =

@@ -1,4 +1,4 @@
--- How trees come to tell what a parse tells: none, one after another, one that fits, and each kind of bracket.
+-- When trees agree with a parse: no tree, a sequence of trees, a tree that fits, and each kind of bracket.
 use Rattle.std.proofs.Common.{◌≡◌, ℕ, suc, ◌+◌, ◌≤◌, ◌<◌, ◌≢◌, Bool, true, false, eqb, Option, Some, None, List, [], ◌∷◌, ◌++◌, length, refl, ap, sym, ◌∙◌, arith, inl, inr}
 use Rattle.std.specs.Prelude.{is_some}
 use Rattle.std.proofs.Math.Bool.{or-false}
@@ -133,7 +133,7 @@ rows_of_pair k o i c ahead rest h =
     ∙ sym (glue_assoc (glue (bracket_row k o true) (tree_rows i)) (closing_rows k c) rest)
     ∙ ap (λ (x : List Row). glue x rest) (sym (glue_empty (tree_rows (pair k o i c)) (HasRow-tree_rows (pair k o i c))))
 
--- the parse of an opening bracket and what is inside, where the stack has room
+-- the parse of an opening bracket and the content after it, if the stack has room
 opened_story : (kinds level k o : ℕ) (ahead rest : List Row) (i : Tree) (p : Length) (stack : List Bracket)
     → level < MOST_OPEN → Tells (with_kind kinds k) (suc level) ahead rest (items i) → IsStack kinds level stack
     → parse stack (placed p (glue (bracket_row k o true) ahead))
@@ -156,13 +156,13 @@ missing_of_pair : (kinds level k o : ℕ) (ahead rest : List Row) (i : Tree) (c 
 missing_of_pair kinds level k o ahead rest i c j h open_kind =
     or-false (is_missing j i) ∙ sym (any_missing-items j i) ∙ h.closes_none j (has_kind-with_kind kinds k j open_kind)
 
--- what is inside a pair does not miss the pair's kind
+-- the content of a pair has no unexpected closing bracket of the pair's kind
 pub not_missing_inside : (kinds level k : ℕ) (ahead rest : List Row) (i : Tree)
     → Tells (with_kind kinds k) (suc level) ahead rest (items i) → is_missing k i ≡ false
 not_missing_inside kinds level k ahead rest i h =
     sym (any_missing-items k i) ∙ h.closes_none k (has_kind-with_same kinds k)
 
--- a pair that is closed
+-- a closed pair
 pub Tells-paired : (kinds level k o w : ℕ) (ahead rest : List Row) (i : Tree)
     → level < MOST_OPEN
     → Tells (with_kind kinds k) (suc level) ahead (glue (bracket_row k w false) rest) (items i)
@@ -196,7 +196,7 @@ Tells-paired kinds level k o w ahead rest i below h = record {
 abbrev under : Story → Story
 under s = record { closers = None ∷ s.closers; entries = s.entries }
 
--- no text among these rows closes a bracket of kind k above such a stack
+-- these rows do not close a bracket of kind k on top of such a stack
 LeavesOpen : ℕ → ℕ → ℕ → List Row → Type 0
 LeavesOpen kinds level k rest =
     (q : Length) (b : Bracket) (stack : List Bracket) → b.kind ≡ k → IsStack kinds level stack

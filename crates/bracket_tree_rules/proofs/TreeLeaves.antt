@@ -1,4 +1,4 @@
--- The leaves of a tree, line by line, and what a node or a bracket of it leaves of its line.
+-- The leaves of a tree, line by line, and the weight that a node or a bracket leaves of its line.
 use Rattle.std.proofs.Common.{◌≡◌, ℕ, zero, suc, ◌+◌, ◌<◌, ◌⊎◌, inl, inr, Option, Some, None, List, [], ◌∷◌, ◌++◌, refl, ap, sym, ◌∙◌, subst, arith, add_assoc, zero-add}
 use Rattle.text_lengths.specs.declared.Length.{Length}
 use Rattle.text_lengths.specs.Length.{length_of, length_plus}
@@ -126,7 +126,7 @@ gap_lines p (suc zero) (suc n) (inr h) = absurd (let none : suc n ≡ 0 = h.1 in
 gap_lines p (suc (suc m)) n (inl h) = absurd (let none : suc (suc m) ≡ 0 = h.0 in omega arith)
 gap_lines p (suc (suc m)) n (inr h) = absurd (let none : suc (suc m) ≡ 1 = h.0 in omega arith)
 
--- the leaves of a tree weigh line by line what the tree does
+-- line by line the leaves have the weight of the tree
 pub leaves_weigh : (p : Length) (t : Tree) → IsTree t → weights_from p (tree_length t).lines (leaves p t) ≡ tree_weights t
 leaves_weigh p (text l) h = gap_lines p l.lines l.columns h
 leaves_weigh p (pair k o i c) h =

@@ -1,4 +1,4 @@
--- A tree that fits a stack may stand for its tokens: the parse goes on after its entries.
+-- A tree that fits on a stack may replace its tokens: the parse continues after its entries.
 use Rattle.std.proofs.Common.{◌≡◌, ℕ, suc, ◌+◌, ◌≤◌, ◌<◌, max, true, false, eqb, Some, None, List, [], ◌∷◌, ◌++◌, length, refl, ap, sym, ◌∙◌, arith, append_assoc, inl, inr}
 use Rattle.std.proofs.lemmas.Bool.{and_parts, or_parts, or_left, or_right}
 use Rattle.std.proofs.lemmas.Bool.Decides.{eqb_tells}
@@ -70,7 +70,7 @@ told-paired stack b c es s =
 
 -- ---- whole trees
 
--- a kind that is missing inside a pair is not the pair's
+-- the kind of an unexpected closing bracket inside a pair is not the pair's kind
 other_kind : (k j : ℕ) (i : Tree) → is_missing k i ≡ false → is_missing j i ≡ true → eqb k j ≡ false
 other_kind k j i h m = elim (eqb_tells k j) [
   | inl same ↦ let at_k : is_missing k i ≡ true = rw same.1 m in cc
@@ -90,7 +90,7 @@ FitsOn-inside stack p k o i w h f = record {
   room = let room : length stack + suc (nesting i) ≤ MOST_OPEN = f.room in omega arith;
 }
 
--- both parts of a list fit where the list does
+-- both parts of a list fit on a stack on which the list fits
 FitsOn-both : (stack : List Bracket) (a b : Tree) → FitsOn stack (two a b) → FitsOn stack a × FitsOn stack b
 FitsOn-both stack a b f =
     let closed = and_parts (is_closed a) (is_closed b) f.closed in
@@ -102,7 +102,7 @@ FitsOn-both stack a b f =
       record { closed = closed.1; uncapped = uncapped.1; apart = λ k m. f.apart k (missing_second k m); room = omega arith },
     )
 
--- a list of three fits as one of two whose second is a list of two
+-- a list of three that fits also fits as a list of two, the second of which is a list of two
 FitsOn-three : (stack : List Bracket) (a b c : Tree) → FitsOn stack (three a b c) → FitsOn stack (two a (two b c))
 FitsOn-three stack a b c f = record { closed = f.closed; uncapped = f.uncapped; apart = f.apart; room = f.room }
 

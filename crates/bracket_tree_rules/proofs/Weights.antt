@@ -1,4 +1,4 @@
--- No length or nesting of a tree passes its weight, and each step down a list doubles what the list weighs at least.
+-- Length and nesting of a tree are at most its weight, and each level of a list at least doubles the weight.
 use Rattle.std.proofs.Common.{◌≡◌, ℕ, suc, ◌+◌, ◌≤◌, ◌<◌, ◌^◌, max, false, List, [], ◌∷◌, refl, subst, arith, inl, inr}
 use Rattle.std.proofs.Math.Nat.{two-pow-succ}
 use Rattle.std.proofs.lemmas.Nat.{pow_pos}
@@ -9,7 +9,7 @@ use Rattle.text_lengths.specs.Length.{length_plus}
 use Rattle.bracket_tree_rules.specs.Tree.{Tree, text, pair, stray, capped, nothing, two, three, wide, width_of, tree_length, nesting, height, highest, weight, is_nothing, IsGap, IsTree, all_weight}
 use Rattle.bracket_tree_rules.specs.Items.{all_length}
 
--- lines and columns together
+-- the sum of lines and columns
 abbrev pub units_of : Length → ℕ
 units_of l = l.lines + l.columns
 
@@ -70,7 +70,7 @@ gap_weight : (l : Length) → IsGap l → 0 < l.lines + l.columns
 gap_weight l (inl h) = omega arith
 gap_weight l (inr h) = omega arith
 
--- a list has twice the parts of a list that is lower by one
+-- the weight of a non-empty tree is at least 2 to the power of its height
 pub height_doubles : (t : Tree) → IsTree t → is_nothing t ≡ false → 2 ^ height t ≤ weight t
 height_doubles (text l) h e = gap_weight l h
 height_doubles (pair k o i c) h e = let opening : 0 < o = h.0.opening in omega arith

@@ -1,4 +1,4 @@
--- Trees that tell all of a text's rows are one tree of the text.
+-- Trees that agree with all rows of a text form one tree of the text.
 use Rattle.std.proofs.Common.{◌≡◌, List, [], ◌∷◌, ap, sym, ◌∙◌}
 use Rattle.std.proofs.lemmas.List.{append-nil}
 use Rattle.text_lengths.specs.Length.{no_length}

@@ -11,13 +11,13 @@ use Rattle.bracket_tree_rules.specs.Weights.{glue_weights, tree_weights, AreCove
 use Rattle.bracket_tree_rules.specs.Places.{touched}
 use Rattle.bracket_tree_rules.specs.Found.{IsTokenAt}
 
--- `(` and `)` round `]`, and a bracket beyond the most that may be open
+-- `(` and `)` round `]`, and a bracket beyond the limit on open brackets
 entries_of_pair :
     entries_of (tree_story (pair 0 1 (stray 1 1) (Some 1)))
     ≡ entry 0 0 1 0 PairedOpening 0 ∷ entry 0 1 1 1 Unexpected 1 ∷ entry 0 2 1 0 PairedClosing 0 ∷ []
 entries_of_pair = refl
 
--- a list of two lists stands inside a pair
+-- a list of two lists inside a pair
 the_highest_list_may_stand_inside_a_pair :
     highest (two (pair 0 1 (two (two (stray 1 1) (stray 1 1)) (two (stray 1 1) (stray 1 1))) (Some 1)) (stray 1 1)) ≡ 2
 the_highest_list_may_stand_inside_a_pair = refl
@@ -39,7 +39,7 @@ a_bracket_closes_at_column_2 :
     IsTokenAt no_length (pair 0 1 (text (length_of 0 1)) (Some 1)) (length_of 0 2) (token 2 1 0 false)
 a_bracket_closes_at_column_2 = record { stands = inr (inl refl); column = refl }
 
--- the line that the break ends goes on to the next one, which begins with nothing
+-- the line that the break ends, and the empty start of the next line
 a_break_weighs_in_the_line_it_ends : tree_weights (text (length_of 1 0)) ≡ 1 ∷ 0 ∷ []
 a_break_weighs_in_the_line_it_ends = refl
 

@@ -1,4 +1,4 @@
--- What the nodes of a list show together, one after another.
+-- The joint properties of the nodes of a list, one after another.
 use Rattle.std.specs.Prelude.{ℕ, Bool, false, ◌||◌, List, [], ◌∷◌, ◌++◌}
 use Rattle.text_lengths.specs.declared.Length.{Length}
 use Rattle.text_lengths.specs.Length.{no_length, length_plus}
@@ -11,7 +11,7 @@ abbrev pub all_length : List Tree → Length
 all_length [] = no_length
 all_length (t ∷ ts) = length_plus (tree_length t) (all_length ts)
 
--- what each node shows at its place, where the first starts at place p
+-- the concatenation of what each node shows at its place, if the first starts at place p
 abbrev pub spread : {X : Type 0} → (Length → Tree → List X) → Length → List Tree → List X
 spread show p [] = []
 spread show p (t ∷ ts) = show p t ++ spread show (length_plus p (tree_length t)) ts

@@ -1,4 +1,4 @@
--- The leaves of a tree at their places, and what those of a line weigh from a column on.
+-- The leaves of a tree with their places, and the weight of those of a line from a column on.
 use Rattle.std.specs.Prelude.{◌≡◌, ℕ, zero, suc, ◌+◌, ◌&&◌, ◌==◌, nat_le, if◌then◌else◌, List, [], ◌∷◌, ◌++◌, Option, Some, None, refl}
 use Rattle.text_lengths.specs.declared.Length.{Length}
 use Rattle.text_lengths.specs.Length.{length_of, no_length, length_plus}
@@ -30,7 +30,7 @@ leaves p (three a b c) =
     leaves p a ++ (leaves (length_plus p (tree_length a)) b
     ++ leaves (length_plus (length_plus p (tree_length a)) (tree_length b)) c)
 
--- what a leaf weighs, if it starts in the line of place q, at its column or behind it
+-- the weight of a leaf if it starts in the line of place q, at or after its column; else 0
 abbrev pub leaf_weight : Length → Leaf → ℕ
 leaf_weight q l = if l.place.lines == q.lines && nat_le q.columns l.place.columns then l.weight else 0
 
@@ -38,16 +38,16 @@ abbrev pub weight_from : Length → List Leaf → ℕ
 weight_from q [] = 0
 weight_from q (l ∷ ls) = leaf_weight q l + weight_from q ls
 
--- the same, and then what those weigh that start in each of so many lines after it
+-- the weight from place q on in its line, and then the weight of each of the next `lines` lines
 abbrev pub weights_from : Length → ℕ → List Leaf → List ℕ
 weights_from q zero ls = weight_from q ls ∷ []
 weights_from q (suc lines) ls = weight_from q ls ∷ weights_from (next_line q) lines ls
 
--- what is left of the tree of a text in the line of this place, from its column on
+-- the weight of the tree of a text in the line of this place, from its column on
 abbrev pub weight_left : Tree → Length → ℕ
 weight_left t q = weight_from q (leaves no_length t)
 
--- what a line weighs, counted from 0
+-- the weight of a line, counted from 0
 abbrev pub line_weight : Tree → ℕ → ℕ
 line_weight t line = weight_left t (length_of line 0)
 

@@ -9,12 +9,12 @@ use Rattle.bracket_tree_rules.specs.Found.{IsNodeFound, IsBracketFound}
 
 -- ---- parts
 
--- the tree that starts at place p starts at place q or before it, and ends after it
+-- the tree that starts at place p starts at or before place q, and ends after it
 pub record Holds (p : Length) (t : Tree) (q : Length) : Type 0 where
   pub from : is_before q p ≡ false
   pub ends : is_before q (length_plus p (tree_length t)) ≡ true
 
--- this one, which starts at place r, is a node right below the tree that starts at place p
+-- the node `part`, which starts at place r, is a direct part of the tree that starts at place p
 abbrev pub IsPart : Length → Tree → Length → Tree → Type 0
 IsPart p (text l) r part = ⊥
 IsPart p (pair kind open_width inside close_width) r part = IsHere (inside_start p open_width) inside r part
@@ -29,7 +29,7 @@ IsPart p (three a b c) r part =
 abbrev pub NoPartHolds : Length → Tree → Length → Type 0
 NoPartHolds p t q = (r : Length) (part : Tree) → IsPart p t r part → Holds r part q → ⊥
 
--- no bracket of the tree that stands in none of its parts starts at place q
+-- no bracket that belongs to the tree itself, and not to one of its parts, starts at place q
 abbrev pub NoOwnBracketAt : Length → Tree → Length → Type 0
 NoOwnBracketAt p (text l) q = ⊤
 NoOwnBracketAt p (pair kind open_width inside close_width) q =
@@ -42,7 +42,7 @@ NoOwnBracketAt p (three a b c) q = ⊤
 
 -- ---- what the whole shows
 
--- the node that is found at place q in the tree that starts at place r is the one that is found there in the whole
+-- the node found at place q in the tree that starts at place r is also the one found there in the whole tree
 abbrev pub ShowsNode : Tree → Length → Tree → Length → ℕ → ℕ → ℕ → Type 0
 ShowsNode whole r t q lines kinds level = (found : Option Tree)
     → IsNodeFound r t q lines kinds level found → IsNodeFound no_length whole q lines kinds level found
@@ -50,12 +50,12 @@ ShowsNode whole r t q lines kinds level = (found : Option Tree)
 abbrev pub ShowsNodes : Tree → Length → Tree → Length → Type 0
 ShowsNodes whole r t q = (lines kinds level : ℕ) → ShowsNode whole r t q lines kinds level
 
--- likewise the bracket
+-- the bracket found at place q in the tree that starts at place r is also the one found there in the whole tree
 abbrev pub ShowsBrackets : Tree → Length → Tree → Length → Type 0
 ShowsBrackets whole r t q = (found : Option Token) → IsBracketFound r t q found → IsBracketFound no_length whole q found
 
--- the tree that starts at place r shows, at each place that it holds, what the whole shows there: of the nodes, where it
--- starts before that place
+-- at each place that it holds, the tree that starts at place r shows the same brackets as the whole tree, and, at
+-- places after its start, the same nodes
 pub record IsShown (whole : Tree) (r : Length) (t : Tree) : Type 0 where
   pub light : r.lines + r.columns + weight t < 2 ^ 64
   pub nodes : (q : Length) → is_before r q ≡ true → Holds r t q → ShowsNodes whole r t q

@@ -1,4 +1,5 @@
--- What stands at a place of a tree, which of it may be taken for another text, and the rows of a text from a place on.
+-- The nodes and brackets at a place of a tree, which nodes may be taken for another text, and the rows of a text from
+-- a place on.
 use Rattle.std.specs.Prelude.{◌≡◌, ℕ, zero, suc, ◌-◌, ◌<◌, ◌≤◌, ◌⊎◌, false, nat_lt, if◌then◌else◌, List, [], ◌∷◌, drop, ⊤}
 use Rattle.text_lengths.specs.declared.Length.{Length}
 use Rattle.text_lengths.specs.Length.{length_plus, is_before}
@@ -11,12 +12,12 @@ use Rattle.bracket_tree_rules.specs.Told.{Fits}
 
 -- ---- nodes
 
--- the node is this tree, and stands where it starts
+-- node n is the tree itself, at its start
 pub record IsHere (p : Length) (t : Tree) (q : Length) (n : Tree) : Type 0 where
   pub node : n ≡ t
   pub place : q ≡ p
 
--- node n stands at place q in the tree that starts at place p; the brackets of a pair are no nodes
+-- node n is at place q in the tree that starts at place p; the brackets of a pair are not nodes
 abbrev pub HasNode : Length → Tree → Length → Tree → Type 0
 HasNode p (text l) q n = IsHere p (text l) q n
 HasNode p (pair kind open_width inside close_width) q n =
@@ -30,16 +31,16 @@ HasNode p (three a b c) q n =
     IsHere p (three a b c) q n ⊎ (HasNode p a q n ⊎ (HasNode (length_plus p (tree_length a)) b q n
     ⊎ HasNode (length_plus (length_plus p (tree_length a)) (tree_length b)) c q n))
 
--- the bracket is one of these
+-- the bracket is a member of the list
 abbrev pub IsAmong : Bracket → List Bracket → Type 0
 IsAmong b [] = ⊥
 IsAmong b (first ∷ rest) = (b ≡ first) ⊎ IsAmong b rest
 
--- bracket b stands in the tree that starts at place p
+-- bracket b belongs to the tree that starts at place p
 abbrev pub HasBracket : Length → Tree → Bracket → Type 0
 HasBracket p t b = IsAmong b (tree_tokens p t)
 
--- Something of the tree starts at place q, a text or a bracket, or the tree ends there.
+-- Place q is the start of a text or of a bracket of the tree, or the end of the tree.
 pub data IsEdge (p : Length) (t : Tree) (q : Length) : Type 0 where
   at_text : (l : Length) → HasNode p t q (text l) → IsEdge p t q
   at_bracket : (b : Bracket) → HasBracket p t b → b.place ≡ q → IsEdge p t q
@@ -47,8 +48,8 @@ pub data IsEdge (p : Length) (t : Tree) (q : Length) : Type 0 where
 
 -- ---- what may be taken
 
--- How many lines a text of this length touches, where it starts in one of them. One that ends just after a break does
--- not touch the next line.
+-- The number of lines that a text of this length touches, including the one in which it starts. A text that ends just
+-- after a break does not touch the next line.
 abbrev pub lines_touched : ℕ → ℕ → ℕ
 lines_touched lines zero = lines
 lines_touched lines (suc columns) = suc lines
@@ -56,13 +57,13 @@ lines_touched lines (suc columns) = suc lines
 abbrev pub touched : Length → ℕ
 touched l = lines_touched l.lines l.columns
 
--- the node may be taken where so many lines are left, and brackets of these kinds are open, so many at once
+-- the node may be taken where `lines` lines are left and `level` brackets are open, of the kinds `kinds`
 pub record MayBeTaken (lines kinds level : ℕ) (n : Tree) : Type 0 where
   pub some : is_nothing n ≡ false
   pub within : touched (tree_length n) ≤ lines
   pub fits : Fits kinds level n
 
--- of the nodes at place q that may be taken none is longer than this one
+-- n is a node at place q that may be taken, and no longer node there may be taken
 pub record IsLongest (p : Length) (t : Tree) (q : Length) (lines kinds level : ℕ) (n : Tree) : Type 0 where
   pub stands : HasNode p t q n
   pub taken : MayBeTaken lines kinds level n
@@ -74,14 +75,14 @@ NoneMayBeTaken p t q lines kinds level = (n : Tree) → HasNode p t q n → MayB
 
 -- ---- rows from a place on
 
--- the brackets from a column on, seen from there
+-- the brackets from a column on, with their columns relative to it
 abbrev pub later_brackets : ℕ → List Token → List Token
 later_brackets column [] = []
 later_brackets column (t ∷ ts) =
     if nat_lt t.at column then later_brackets column ts
     else token (t.at - column) t.len t.kind t.opening ∷ later_brackets column ts
 
--- the first of these rows begins at a column of its own; only the last row counts columns
+-- the rows with the first one starting at a column; only the last row counts columns
 abbrev pub from_column : ℕ → List Row → List Row
 from_column column [] = []
 from_column column (r ∷ []) = row (later_brackets column r.brackets) (r.columns - column) ∷ []
@@ -92,12 +93,12 @@ rows_from p rows = from_column p.columns (drop p.lines rows)
 
 -- ---- what stands before
 
--- the brackets start before this column
+-- all brackets start before this column
 abbrev pub AreBefore : ℕ → List Token → Type 0
 AreBefore column [] = ⊤
 AreBefore column (t ∷ ts) = (t.at < column) × AreBefore column ts
 
--- the brackets of the last row start within its columns
+-- the brackets of the last row start before its end
 abbrev pub IsBounded : List Row → Type 0
 IsBounded [] = ⊤
 IsBounded (r ∷ []) = AreBefore r.columns r.brackets

@@ -1,4 +1,4 @@
--- What a bracket tree is, and what it shows, by shape.
+-- The definition of bracket trees, and what a tree shows, by its shape.
 use Rattle.std.specs.Prelude.{◌≡◌, ℕ, zero, suc, ◌+◌, ◌<◌, ◌⊎◌, max, Bool, true, false, ◌&&◌, ◌||◌, ◌==◌, if◌then◌else◌, List, [], ◌∷◌, ◌++◌, Option, Some, None, ⊤}
 use Rattle.text_lengths.specs.declared.Length.{Length}
 use Rattle.text_lengths.specs.Length.{length_of, no_length, length_plus, is_before}
@@ -12,15 +12,15 @@ use Rattle.bracket_rules.specs.Rows.{Row, row}
 use Rattle.bracket_rules.specs.TextRows.{empty_row, glue}
 
 pub data Tree : Type 0 where
-  -- units without brackets in one line, or the break that ends a line with what stands before it
+  -- text without brackets within one line, or the break that ends a line together with the text before it
   text : Length → Tree
-  -- the kind, the width of the opening bracket, what is inside, and the width of the closing bracket, if there is one
+  -- the kind, the width of the opening bracket, the content, and the width of the closing bracket, if there is one
   pair : ℕ → ℕ → Tree → Option ℕ → Tree
   -- an unexpected closing bracket: its kind and its width
   stray : ℕ → ℕ → Tree
-  -- an opening bracket beyond the most that may be open: its kind and its width
+  -- an opening bracket beyond the limit on open brackets: its kind and its width
   capped : ℕ → ℕ → Tree
-  -- a list of no nodes, and a list as a (2,3)-tree
+  -- the empty list, and a list as a (2,3)-tree
   nothing : Tree
   two : Tree → Tree → Tree
   three : Tree → Tree → Tree → Tree
@@ -46,7 +46,7 @@ tree_length (three a b c) = length_plus (length_plus (tree_length a) (tree_lengt
 
 -- ---- brackets in order
 
--- where what stands after the opening bracket of a pair begins, and where it ends
+-- the start of the content of a pair, and its end
 abbrev pub inside_start : Length → ℕ → Length
 inside_start p open_width = length_plus p (wide open_width)
 
@@ -106,7 +106,7 @@ closing_entries p kind level None opener = []
 closing_entries p kind level (Some width) opener =
     judged_closing (bracket p width kind false) level (Some opener) ∷ []
 
--- the entries of a tree that starts at place p and has so many pairs round it
+-- the entries of a tree that starts at place p inside `level` pairs
 abbrev pub tree_entries : Length → ℕ → Tree → List Judged
 tree_entries p level (text l) = []
 tree_entries p level (pair kind open_width inside close_width) =
@@ -138,7 +138,7 @@ abbrev pub is_some_width : Option ℕ → Bool
 is_some_width None = false
 is_some_width (Some width) = true
 
--- whether each pair in the tree has its closing bracket
+-- whether every pair in the tree has its closing bracket
 abbrev pub is_closed : Tree → Bool
 is_closed (text l) = true
 is_closed (pair kind open_width inside close_width) = is_some_width close_width && is_closed inside
@@ -148,7 +148,7 @@ is_closed nothing = true
 is_closed (two a b) = is_closed a && is_closed b
 is_closed (three a b c) = is_closed a && (is_closed b && is_closed c)
 
--- whether the tree has a bracket beyond the most that may be open
+-- whether the tree has a bracket beyond the limit on open brackets
 abbrev pub is_capped : Tree → Bool
 is_capped (text l) = false
 is_capped (pair kind open_width inside close_width) = is_capped inside
@@ -158,7 +158,7 @@ is_capped nothing = false
 is_capped (two a b) = is_capped a || is_capped b
 is_capped (three a b c) = is_capped a || (is_capped b || is_capped c)
 
--- the greatest number of pairs inside one another
+-- the greatest depth to which pairs are nested
 abbrev pub nesting : Tree → ℕ
 nesting (text l) = 0
 nesting (pair kind open_width inside close_width) = suc (nesting inside)
@@ -168,7 +168,7 @@ nesting nothing = 0
 nesting (two a b) = max (nesting a) (nesting b)
 nesting (three a b c) = max (nesting a) (max (nesting b) (nesting c))
 
--- the height of a list; what is no list of two or three parts has height 0
+-- the height of a list of two or three parts; 0 for any other tree
 abbrev pub height : Tree → ℕ
 height (text l) = 0
 height (pair kind open_width inside close_width) = 0
@@ -178,7 +178,7 @@ height nothing = 0
 height (two a b) = suc (height a)
 height (three a b c) = suc (height a)
 
--- the greatest height of a list in the tree, the tree itself and what stands inside pairs among them
+-- the greatest height of a list in the tree, including the tree itself and the content of pairs
 abbrev pub highest : Tree → ℕ
 highest (text l) = 0
 highest (pair kind open_width inside close_width) = highest inside
@@ -188,7 +188,7 @@ highest nothing = 0
 highest (two a b) = max (suc (height a)) (max (highest a) (highest b))
 highest (three a b c) = max (suc (height a)) (max (highest a) (max (highest b) (highest c)))
 
--- all lines and columns of the leaves together, which no length, height or nesting in the tree passes
+-- the sum of all lines and columns of the leaves, an upper bound for every length, height and nesting in the tree
 abbrev pub weight : Tree → ℕ
 weight (text l) = l.lines + l.columns
 weight (pair kind open_width inside close_width) = open_width + (weight inside + width_of close_width)
@@ -209,7 +209,7 @@ is_nothing nothing = true
 is_nothing (two a b) = false
 is_nothing (three a b c) = false
 
--- a text lies within one line, and holds that line's break when it ends it
+-- a text is columns within one line, or the break that ends the line, which includes the text before it
 abbrev pub IsGap : Length → Type 0
 IsGap l = ((l.lines ≡ 0) × (0 < l.columns)) ⊎ ((l.lines ≡ 1) × (l.columns ≡ 0))
 
@@ -221,15 +221,15 @@ pub record IsPair (kind open_width : ℕ) (inside : Tree) (close_width : Option 
   pub has_kind : kind < MOST_PAIRS
   pub opening : 0 < open_width
   pub closing : IsWidth close_width
-  -- an unexpected bracket of its kind would have closed the pair
+  -- an unexpected closing bracket of its kind would have closed the pair
   pub not_missing : is_missing kind inside ≡ false
 
--- a bracket that stands alone
+-- a single bracket without a partner
 pub record IsLone (kind width : ℕ) : Type 0 where
   pub has_kind : kind < MOST_PAIRS
   pub wide : 0 < width
 
--- the nodes of a list are lists of one height, or no lists, and none of them is empty
+-- the nodes of a list have the same height, and none of them is empty
 pub record IsEven (a b : Tree) : Type 0 where
   pub level : height a ≡ height b
   pub first : is_nothing a ≡ false
@@ -274,7 +274,7 @@ is_opening Unexpected = false
 abbrev pub level_after : Entry → ℕ
 level_after e = if is_opening e.status then suc e.level else e.level
 
--- the level after the last of the entries that start before this place, or this level where none does
+-- the level after the last entry that starts before this place, or `level` if none does
 abbrev pub level_before : Length → ℕ → List Judged → ℕ
 level_before p level [] = level
 level_before p level (j ∷ js) =

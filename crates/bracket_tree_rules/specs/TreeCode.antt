@@ -1,4 +1,4 @@
--- A tree as a list of numbers, by which proofs tell trees apart: its nodes, each after its parts.
+-- A tree as a list of numbers, by which proofs distinguish trees: its nodes, each after its parts.
 use Rattle.std.specs.Prelude.{◌≡◌, ℕ, zero, suc, List, [], ◌∷◌, ◌++◌, Option, None, refl}
 use Rattle.std.specs.Coded.{Coded, code_by, coded_ℕ, coded_list, coded×, coded_option}
 use Rattle.std.proofs.Common.{sym, ◌∙◌, ap, append_assoc}

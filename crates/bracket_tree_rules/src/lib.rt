@@ -1,4 +1,3 @@
-//! What a bracket tree is and shows, and its laws: a tree shows the brackets of its text, and one that
-//! fits where it stands may stand for its tokens. Definitions and laws alone; `bracket_nodes` has the
-//! trees.
+//! Defines bracket trees and what they show, with their laws: a tree shows the brackets of its text, and a tree that
+//! fits at a place may replace the tokens there. Definitions and laws only; `bracket_nodes` implements the trees.
 #![tactic(auto)]

@@ -13,7 +13,7 @@ use Rattle.line_starts.proofs.Blocks.{same_count}
 use Rattle.line_starts.proofs.Starts.{break_count_is, starts_of_is}
 use Rattle.chunk_buffers.specs.Buffer.{cut, breaks_to}
 
--- the breaks that end up to a place, and those of what stands from there on
+-- the breaks that end at most at a place, and those of the text from there on
 pub count_to-rest : (place : ℕ) (x : List ℕ) → count_to place (break_ends 0 x) + length (break_ends 0 (drop place x)) ≡ length (break_ends 0 x)
 count_to-rest place x =
     let rest = ap length (drop-count_to 0 place place x (omega arith)) in
@@ -21,11 +21,11 @@ count_to-rest place x =
     omega (arith, rest, most, length-drop (count_to place (break_ends 0 x)) (break_ends 0 x), same_count place 0 (drop place x))
 
 module _ (place : ℕ) (x : List ℕ) (i : ℕ) where
-  -- a break among those that end up to a place ends there or before
+  -- break `i` is among those counted up to a place, so it ends there or before
   pub ends_by : i < count_to place (break_ends 0 x) → get_or (break_ends 0 x) i 0 ≤ place
   ends_by h = leb-true (get_or (break_ends 0 x) i 0) place (prefix_len_passes (λ e. leb e place) (break_ends 0 x) i 0 h)
 
-  -- and one that is not ends behind it
+  -- a break that is not among them ends after the place
   pub ends_behind : count_to place (break_ends 0 x) ≤ i → i < length (break_ends 0 x) → place < get_or (break_ends 0 x) i 0
   ends_behind h inside =
       let n = count_to place (break_ends 0 x) in
@@ -36,7 +36,7 @@ module _ (place : ℕ) (x : List ℕ) (i : ℕ) where
       let long : i - n < length (break_ends place (drop place x)) = omega (arith, ap length rest, length-drop n (break_ends 0 x)) in
       omega (arith, moved, break_ends_above place place (drop place x) (omega arith) (i - n) 0 long)
 
--- the place at which a cut ends a break that goes on in the whole text
+-- the place of the cut if it separates a CR from its LF: there a break of the part ends that ends later in the whole text
 abbrev pub cut_end : List ℕ → ℕ → ℕ → List ℕ
 cut_end x from to = if joins_pair (cut x from to) (drop to x) then to ∷ [] else []
 
@@ -147,7 +147,7 @@ joins_pair_of_cut x from to some within =
     let at = joins_pair_at (to - from) (drop from x) (omega arith) size in
     rw (drop-drop (to - from) from x, get_or-drop from x (to - from - 1) 0, get_or-drop from x (to - from) 0, last, there) at at
 
--- the last of these texts ends with a CR, or none does
+-- a text ends with a CR if its last unit is one
 pub ends_with_by_last : (x : List ℕ) (b : Bool) → (get_or x (length x - 1) 0 == carriage_return) ≡ b → ends_with carriage_return x ≡ b
 ends_with_by_last x b e = ends_with_last x ∙ e
 

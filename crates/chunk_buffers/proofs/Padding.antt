@@ -49,7 +49,7 @@ from_place start all = take (length all - start) (drop start all)
 pub from_place_of : (front text all : List ℕ) (start : ℕ) → all ≡ front ++ text → start ≡ length front → from_place start all ≡ text
 from_place_of front text all start all_is start_is = take_rest all start ∙ ap (drop start) all_is ∙ drop_at front text start (sym start_is)
 
--- the places that go to those of a buffer when a text is appended
+-- the break ends that are added to those of a buffer when a text is appended
 pub ends_appended : (buffer text front all ends new_ends : List ℕ) (start : ℕ)
     → front ≡ padded buffer text → all ≡ front ++ text → ends ≡ break_ends 0 buffer → start ≡ length front
     → new_ends ≡ ends ++ break_ends_at start (from_place start all) → new_ends ≡ break_ends 0 all

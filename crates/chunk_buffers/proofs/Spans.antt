@@ -47,11 +47,11 @@ LiesIn-extended old new span grown lies = record {
   fits = lies.fits;
 }
 
--- a span shows the same units for good
+-- the units of a span never change
 pub units_at-extended : (old new : List (List ℕ)) (span : ChunkSpan) → Extends old new → LiesIn old span → units_at new span ≡ units_at old span
 units_at-extended old new span grown lies = front_part _ _ (grown.fronts span.buffer lies.buffer) span.start span.units lies.end
 
--- a part of a span shows a part of its units
+-- the units of a part of a span are a part of its units
 pub units_at-part : (bs : List (List ℕ)) (span : ChunkSpan) (from to : ℕ) → from ≤ to → to ≤ span.units → LiesIn bs span
     → units_at bs (part_of span from to) ≡ take (to - from) (drop from (units_at bs span))
 units_at-part bs span from to ordered within lies =
@@ -121,7 +121,7 @@ module _ (bs : List (List ℕ)) (number start units : ℕ) (text new : List ℕ)
         padded_count (buffer_at bs number) (joins_pair (buffer_at bs number) text),
       )
 
-  -- and exactly how many the buffers have more
+  -- the exact growth of the units of all buffers
   pub appended_total : unit_count (set bs number new) + length (buffer_at bs number) ≡ unit_count bs + length new
   appended_total = omega (arith, sum_by-set length bs number new [] inside)
 
@@ -133,7 +133,7 @@ module _ (bs : List (List ℕ)) (number start units : ℕ) (text new : List ℕ)
     end = omega (arith, ap length there, length-append (padded (buffer_at bs number) text) text, start_is, units_is);
   }
 
--- what appending to the last of these buffers leaves
+-- the result of appending to the last buffer
 pub record IsAppended (old new : List (List ℕ)) (span : ChunkSpan) (text : List ℕ) : Type 0 where
   pub shown : units_at new span ≡ text
   pub inside : LiesIn new span
@@ -165,7 +165,7 @@ pub last_buffer_some : (items : List Filled) → 0 < (last_buffer items).room �
 last_buffer_some [] h = absurd (omega arith)
 last_buffer_some (b ∷ items) h = omega arith
 
--- the units of the buffers, where one buffer was replaced by one with the same units
+-- replacing a buffer by one with the same units leaves the units of all buffers unchanged
 pub same_units : (items : List Filled) (number : ℕ) (old new : Filled) → old ≡ get_or items number old → new.units ≡ old.units
     → map (λ b. b.units) (set items number new) ≡ map (λ b. b.units) items
 same_units items number old new old_is units_are =
@@ -183,7 +183,7 @@ last_is items number old last old_is =
     ap (λ n. get_or items n (record { units = []; room = 0; break_room = 0 })) there
     ∙ get_or_default items number (record { units = []; room = 0; break_room = 0 }) old (omega (arith, last)) ∙ sym old_is
 
--- where another buffer with the same units takes the place of the last one, and has room for so many breaks
+-- the last buffer is replaced by one with the same units that has room for `breaks` breaks
 pub AreChunks-set : (items : List Filled) (number : ℕ) (old new : Filled) (units spare breaks : ℕ) → AreChunks items units spare → number + 1 ≡ length items
     → old ≡ get_or items number old → new.units ≡ old.units → breaks ≤ new.break_room → AreChunks (set items number new) units breaks
 AreChunks-set items number old new units spare breaks are last old_is units_are enough = record {
@@ -195,7 +195,7 @@ AreChunks-set items number old new units spare breaks are last old_is units_are 
 counted_on : (a more : ℕ) → at_most_64_bits (at_most_64_bits a + more) ≡ at_most_64_bits (a + more)
 counted_on a more = omega arith
 
--- where so many units were appended to the last buffer, and it has room for so many breaks
+-- `more` units were appended to the last buffer, which has room for `breaks` breaks
 pub AreChunks-appended : (items : List Filled) (number : ℕ) (old new : Filled) (units more total spare breaks : ℕ) → AreChunks items units spare → number + 1 ≡ length items
     → old ≡ get_or items number old → length old.units + more ≡ length new.units → total ≡ at_most_64_bits (units + more) → breaks ≤ new.break_room
     → AreChunks (set items number new) total breaks

@@ -1,4 +1,4 @@
-//! One buffer, with the places at which its breaks end.
+//! One buffer, with the offset after each of its breaks.
 
 ghost use Rattle.std.specs.Prelude.{◌≡◌, ℕ, ◌+◌, ◌-◌, ◌<◌, ◌≤◌, ◌&&◌, ◌==◌, ◌^◌, ◌++◌, ◌∷◌, if◌then◌else◌, List, [], length, take, drop, get_or, OnOk, OnErr, IfOk, IsOk, vec_len, vec_capacity};
 ghost use Rattle.std.specs.List.Sorted.{IsNonDecreasingBy};
@@ -14,17 +14,17 @@ use unit_text::{CARRIAGE_RETURN, LINE_FEED};
 
 const PADDING: u16 = 0x5F;
 
-/// Breaks between places that are no further apart are found by reading the units, and others by searching where they end.
+/// In a range of at most this many units breaks are found by reading the units; in a longer one by a search in `ends`.
 const NEAR: usize = 64;
 
-/// A buffer holds no more units, so that a place in it is a number of 32 bits.
+/// The most units of a buffer: each offset in it fits in 32 bits.
 pub(crate) const MOST_UNITS: usize = u32::MAX as usize;
 
-/// A buffer that texts are appended to. Contracts see its units, and how many more units and breaks fit without memory.
+/// A buffer that texts are appended to. Contracts see its units, and how many more units and breaks fit without an allocation.
 #[derive(Drop)]
 pub(crate) struct Buffer {
     units: Vec<u16>,
-    /// The place after each break of the units.
+    /// The offset after each break of the units, in order.
     ends: Vec<u64>,
 }
 
@@ -45,8 +45,7 @@ impl Model for Buffer {
 }
 
 impl Buffer {
-    /// A buffer without units, and with room for that many, which have that many breaks. It fails where memory is short, and for more
-    /// units than a buffer holds.
+    /// Returns an empty buffer with room for `units` units and `breaks` breaks. Fails if memory is short or `units` exceeds `MOST_UNITS`.
     pub(crate) fn with_room(
         alloc: Global,
         units: usize,
@@ -64,7 +63,7 @@ impl Buffer {
         Ok(Buffer { units, ends })
     }
 
-    /// A buffer of this text, which it takes over. It fails where memory is short, and for a text that is longer than a buffer.
+    /// Returns a buffer that owns these units. Fails if memory is short or there are more than `MOST_UNITS` units.
     pub(crate) fn of_vec(alloc: Global, units: Vec<u16>) -> Result<Buffer, AllocError>
         ensures units { IfOk result (λ buffer. buffer.units ≡ units.items) }
         ensures fits { OnOk result (length units.items ≤ most_units) }
@@ -89,7 +88,7 @@ impl Buffer {
         MOST_UNITS.min(self.units.capacity()) - self.units.len()
     }
 
-    /// Makes room for that many breaks. An error leaves all as it was.
+    /// Makes room for `breaks` more breaks. On an error the buffer is unchanged.
     pub(crate) fn reserve_breaks(&mut self, breaks: usize) -> Result<(), AllocError>
         ensures ok { OnOk result (breaks ≤ self.new.break_room) }
         ensures kept { self.old.break_room ≤ self.new.break_room }
@@ -106,7 +105,7 @@ impl Buffer {
         self.ends.len() as u64
     }
 
-    /// Appends the three texts as one, and answers where it starts.
+    /// Appends the three texts as one, and returns the offset at which it starts.
     pub(crate) fn append(&mut self, before: &[u16], text: &[u16], after: &[u16]) -> usize
         requires room { length (before.now ++ text.now ++ after.now) < self.old.room }
         requires breaks { break_count (before.now ++ text.now ++ after.now)
@@ -131,14 +130,14 @@ impl Buffer {
         start
     }
 
-    // Whether the buffer ends with a CR, and the texts begin with an LF.
+    // Returns whether the buffer ends with a CR and the three texts as one begin with an LF.
     fn would_make_pair(&self, before: &[u16], text: &[u16], after: &[u16]) -> bool
         ensures { result ≡ joins_pair self.now.units (before.now ++ text.now ++ after.now) }
     {
         ends_with_carriage_return(self.units()) && begin_with_line_feed(before, text, after)
     }
 
-    /// How many breaks the units between two places have.
+    /// Returns the number of breaks of the units in `from..to`, taken as a text of their own.
     pub(crate) fn breaks(&self, from: usize, to: usize) -> u64
         requires ordered { from ≤ to }
         requires inside { to ≤ length self.now.units }
@@ -152,7 +151,7 @@ impl Buffer {
         }
     }
 
-    /// The place after the `k`-th break of the units between two places, counted from the first of the places.
+    /// Returns the offset, counted from `from`, after the `k`-th break of the units in `from..to`. Breaks count from 1.
     pub(crate) fn nth_break(&self, from: usize, to: usize, k: u64) -> u64
         requires ordered { from ≤ to }
         requires inside { to ≤ length self.now.units }
@@ -163,7 +162,7 @@ impl Buffer {
         (self.nth_end(from, to, k) - from) as u64
     }
 
-    // The place after the `k`-th break that ends behind the first place, and at most the second place.
+    // Returns the offset after the `k`-th break that ends after `from`, or `to` if that is less or there is none.
     fn nth_end(&self, from: usize, to: usize, k: u64) -> usize
         requires ordered { from ≤ to }
         requires inside { to ≤ length self.now.units }
@@ -186,7 +185,7 @@ impl Buffer {
         to.min(self.end(index) as usize)
     }
 
-    /// How many breaks of the units between two places end `place` units after the first of them, or earlier.
+    /// Counts the breaks of the units in `from..to` that end at most `place` units after `from`.
     pub(crate) fn breaks_to(&self, from: usize, to: usize, place: usize) -> u64
         requires place { from + place < to }
         requires inside { to ≤ length self.now.units }
@@ -195,7 +194,7 @@ impl Buffer {
         self.ends_between(from, from + place)
     }
 
-    // How many breaks end behind the first place, up to the second.
+    // Counts the breaks that end after `from` and at most at `to`.
     fn ends_between(&self, from: usize, to: usize) -> u64
         requires ordered { from ≤ to }
         requires inside { to ≤ length self.now.units }
@@ -216,7 +215,7 @@ impl Buffer {
         self.ends[index]
     }
 
-    // How many breaks end at the place or before it.
+    // Counts the breaks that end at most at `place`.
     fn ends_to(&self, place: usize) -> usize
         ensures count { result ≡ count_to place (break_ends 0 self.now.units) }
         ensures within { result ≤ length (break_ends 0 self.now.units) }
@@ -235,7 +234,7 @@ fn ends_with_carriage_return(units: &[u16]) -> bool
     units[units.len() - 1] == CARRIAGE_RETURN
 }
 
-// Whether the three texts as one begin with an LF.
+// Returns whether the three texts as one begin with an LF.
 fn begin_with_line_feed(before: &[u16], text: &[u16], after: &[u16]) -> bool
     ensures { result ≡ begins_with line_feed (before.now ++ text.now ++ after.now) }
 {
@@ -248,7 +247,7 @@ fn begin_with_line_feed(before: &[u16], text: &[u16], after: &[u16]) -> bool
     after.first() == Some(&LINE_FEED)
 }
 
-// One unit that belongs to no text, where it must keep a CR and an LF apart.
+// Appends one unit that belongs to no text if a CR and an LF must be kept apart.
 fn pad(units: &mut Vec<u16>, pair: bool)
     requires { vec_len units.old < vec_capacity units.old }
     ensures items { units.new.items
@@ -274,7 +273,7 @@ fn push_all(units: &mut Vec<u16>, before: &[u16], text: &[u16], after: &[u16])
     let _ = units.extend_from_slice(after);
 }
 
-// The places after the breaks of the units, which stand from a place on. There is room for them.
+// Appends the offset after each break of the units, which start at `start` in the buffer. There must be room for them.
 fn push_ends(units: &[u16], start: usize, ends: &mut Vec<u64>)
     requires fits { start + length units.now < 2 ^ 64 }
     requires room { vec_len ends.old + break_count units.now ≤ vec_capacity ends.old }
@@ -285,7 +284,7 @@ fn push_ends(units: &[u16], start: usize, ends: &mut Vec<u64>)
     let _ = find_break_ends(units, start as u64, ends);
 }
 
-// Whether the second place cuts a CR LF that begins after the first one.
+// Returns whether `to` is inside a CR LF that begins at or after `from`.
 fn cuts_pair(units: &[u16], from: usize, to: usize) -> bool
     requires ordered { from ≤ to }
     requires inside { to ≤ length units.now }
@@ -297,7 +296,7 @@ fn cuts_pair(units: &[u16], from: usize, to: usize) -> bool
     units[to - 1] == CARRIAGE_RETURN && units[to] == LINE_FEED
 }
 
-// How many of the ascending places are at most this one.
+// Counts the entries of a sorted list that are at most `place`.
 fn ends_to(ends: &[u64], place: u64) -> usize
     requires { IsNonDecreasingBy (λ e. e) ends.now }
     ensures count { result ≡ count_to place ends.now }

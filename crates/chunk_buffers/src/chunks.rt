@@ -14,21 +14,21 @@ use std::marker::Model;
 /// The least room of a buffer, in units.
 const LEAST_ROOM: usize = 4096;
 
-/// The most room that a buffer has beyond what is asked for, in units. Its breaks lie in a list that grows, so it stays small.
+/// The most room of a new buffer, in units, unless more is asked for. It is small because the list of breaks of a buffer grows with it.
 const MOST_ROOM: usize = 1 << 16;
 
-/// There are no more buffers, so that the number of one is a number of 32 bits.
+/// The most buffers: the index of each fits in 32 bits.
 const MOST_BUFFERS: usize = u32::MAX as usize;
 
-/// Texts in buffers that only grow at their ends, so that a span shows the same units for good.
+/// Texts in buffers that are only appended to, so that the units of a span never change.
 ///
-/// A buffer is never moved: where a text has no room in the last one, a new one is begun.
+/// A buffer is never moved: if the last one has no room for a text, a new one is begun.
 #[derive(Drop)]
 pub struct Chunks {
     buffers: Vec<Buffer>,
-    /// How many units they hold, or 2^64 - 1 where these are more.
+    /// The number of units in all buffers, at most 2^64 - 1.
     units: u64,
-    /// For how many breaks there is room.
+    /// The number of breaks for which there is room.
     spare_breaks: u64,
     alloc: Global,
 }
@@ -62,15 +62,16 @@ impl Chunks {
         }
     }
 
-    /// How many units the buffers hold; 2^64 - 1 where they hold more.
+    /// Returns the number of units in all buffers, at most 2^64 - 1.
     pub fn len(&self) -> u64
         ensures { result ≡ at_most_64_bits (unit_count self.now.buffers) }
     {
         self.units
     }
 
-    /// Makes room for that many units, where each text takes one more than it has, and for that many breaks. It fails where memory is
-    /// short, and where they are more than a buffer holds. An error leaves all as it was.
+    /// Makes room for `units` units and `breaks` breaks. Each appended text needs room for one unit more than its length. Fails if memory
+    /// is short, if `units` exceeds what one buffer holds, or if there are already 2^32 - 1 buffers and a new one is needed. On an error
+    /// nothing changes.
     pub fn reserve(&mut self, units: u64, breaks: u64) -> Result<(), AllocError>
         ensures ok { OnOk result (units ≤ self.new.spare) }
         ensures breaks { OnOk result (breaks ≤ self.new.spare_breaks) }
@@ -87,7 +88,7 @@ impl Chunks {
         self.reserve_breaks(breaks)
     }
 
-    // Makes room for that many breaks in the last buffer, or in a first one.
+    // Makes room for `breaks` breaks in the last buffer, or in a new one if there is none.
     fn reserve_breaks(&mut self, breaks: u64) -> Result<(), AllocError>
         ensures breaks { OnOk result (breaks ≤ self.new.spare_breaks) }
         ensures same { Extends self.old.buffers self.new.buffers }
@@ -107,7 +108,7 @@ impl Chunks {
         Ok(())
     }
 
-    // Begins a buffer with room for that many units or more, and for just that many breaks.
+    // Begins a buffer with room for at least `units` units, and for `breaks` breaks.
     fn begin_buffer(&mut self, units: usize, breaks: u64) -> Result<(), AllocError>
         ensures room { OnOk result (units ≤ self.new.spare) }
         ensures breaks { OnOk result (self.new.spare_breaks ≡ breaks) }
@@ -125,7 +126,8 @@ impl Chunks {
         Ok(())
     }
 
-    // The room of a new buffer: twice what the last one holds, so that there are few.
+    // Returns the usual room of a new buffer: twice the length of the last one, from `LEAST_ROOM` to `MOST_ROOM`, so that there are few
+    // buffers.
     fn usual_room(&self) -> usize
         ensures { result ≤ 2 ^ 16 }
     {
@@ -136,7 +138,7 @@ impl Chunks {
         (2 * last.min(MOST_ROOM / 2)).max(LEAST_ROOM)
     }
 
-    /// Whether there is room for that many units and breaks.
+    /// Returns whether there is room for `units` units and `breaks` breaks.
     pub fn has_room(&self, units: u64, breaks: u64) -> bool
         ensures { IsTrue result
             → (units ≤ self.now.spare) × (breaks ≤ self.now.spare_breaks) }
@@ -144,7 +146,7 @@ impl Chunks {
         units <= self.room() as u64 && breaks <= self.spare_breaks
     }
 
-    // The room of the last buffer.
+    // Returns the room of the last buffer; 0 if there is none.
     fn room(&self) -> usize
         ensures { result ≡ self.now.spare }
     {
@@ -154,7 +156,7 @@ impl Chunks {
         }
     }
 
-    /// Appends the three texts as one, and answers where they lie and how many breaks they have. It takes no memory.
+    /// Appends the three texts as one, and returns its span and its number of breaks. Allocates nothing.
     pub fn append_joined(&mut self, before: &[u16], text: &[u16], after: &[u16]) -> (ChunkSpan, u32)
         requires room { length (before.now ++ text.now ++ after.now) < self.old.spare }
         requires breaks { break_count (before.now ++ text.now ++ after.now)
@@ -188,8 +190,8 @@ impl Chunks {
         (span, breaks as u32)
     }
 
-    /// Takes the text over as a buffer of its own, without a copy, and answers where it lies and how many breaks it has. It fails where
-    /// memory is short, and for a text that is longer than a buffer may be.
+    /// Makes the text a buffer of its own without copying it, and returns its span and its number of breaks. Fails if memory is short, if
+    /// the text is longer than a buffer may be, or if there are already 2^32 - 1 buffers.
     pub fn append_whole(&mut self, text: Vec<u16>) -> Result<(ChunkSpan, u32), AllocError>
         ensures shown { IfOk result (λ at. units_at self.new.buffers at.0 ≡ text.items) }
         ensures inside { IfOk result (λ at. LiesIn self.new.buffers at.0) }
@@ -217,7 +219,7 @@ impl Chunks {
         Ok((span, breaks as u32))
     }
 
-    /// Whether the span lies in the buffers.
+    /// Returns whether the span lies in the buffers.
     pub fn has(&self, span: ChunkSpan) -> bool
         ensures { IsTrue result → LiesIn self.now.buffers span }
     {
@@ -228,7 +230,7 @@ impl Chunks {
         end <= buffer.units().len() && end <= MOST_UNITS
     }
 
-    /// The units that the span shows.
+    /// Returns the units of the span.
     pub fn units(&self, span: ChunkSpan) -> &[u16]
         requires { LiesIn self.now.buffers span }
         ensures { result.now ≡ units_at self.now.buffers span }
@@ -237,7 +239,7 @@ impl Chunks {
         &self.buffers[span.buffer as usize].units()[start..start + span.units as usize]
     }
 
-    /// How many breaks the units of the span have.
+    /// Returns the number of breaks of the span's units.
     pub fn breaks(&self, span: ChunkSpan) -> u64
         requires { LiesIn self.now.buffers span }
         ensures { result ≡ break_count (units_at self.now.buffers span) }
@@ -246,7 +248,7 @@ impl Chunks {
         self.buffers[span.buffer as usize].breaks(start, end)
     }
 
-    /// The place after the `k`-th break of the span's units, counted from the span's start. Breaks count from 1.
+    /// Returns the offset, counted from the span's start, after the `k`-th break of its units. Breaks count from 1.
     pub fn nth_break(&self, span: ChunkSpan, k: u64) -> u64
         requires inside { LiesIn self.now.buffers span }
         requires first { 0 < k }
@@ -257,7 +259,7 @@ impl Chunks {
         self.buffers[span.buffer as usize].nth_break(start, end, k)
     }
 
-    /// How many breaks of the span's units end at the place or before it, where the place counts from the span's start.
+    /// Counts the breaks of the span's units that end at most at `place`, an offset from the span's start.
     pub fn breaks_to(&self, span: ChunkSpan, place: u64) -> u64
         requires inside { LiesIn self.now.buffers span }
         requires place { place < span.units }
@@ -267,7 +269,7 @@ impl Chunks {
         self.buffers[span.buffer as usize].breaks_to(start, end, place as usize)
     }
 
-    /// The part of the span between two places in it.
+    /// Returns the part of the span from offset `from` to offset `to` in it.
     pub fn part(&self, span: ChunkSpan, from: u64, to: u64) -> ChunkSpan
         requires inside { LiesIn self.now.buffers span }
         requires ordered { from ≤ to }

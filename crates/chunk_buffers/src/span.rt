@@ -1,12 +1,12 @@
 //! A part of a buffer.
 
-/// Some adjacent units of one of the buffers of a `Chunks`. It shows the same units for good.
+/// A range of units in one of the buffers of a `Chunks`. The units in it never change.
 #[derive(Clone, Copy, PartialEq, Eq, Debug)]
 pub struct ChunkSpan {
-    /// The number of the buffer, from 0.
+    /// The index of the buffer, from 0.
     pub buffer: u32,
-    /// How many units of the buffer stand before it.
+    /// The offset of its first unit in the buffer.
     pub start: u32,
-    /// How many units it has.
+    /// Its length in units.
     pub units: u32,
 }

@@ -23,7 +23,7 @@ first_ascii : (ascii : Bool) (n m : ℕ) → suc n ≤ cond ascii (1 + m) 0 → 
 first_ascii true n m few = (refl, omega arith)
 first_ascii false n m few = absurd (omega arith)
 
--- no more of a front are ASCII than of the whole
+-- a prefix has at most as many leading ASCII units as the whole list
 pub ascii_in_take : (n : ℕ) (units : List ℕ) → prefix_len is_ascii (take n units) ≤ prefix_len is_ascii units
 ascii_in_take zero units = omega arith
 ascii_in_take (suc n) [] = omega arith

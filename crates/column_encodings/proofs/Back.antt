@@ -1,4 +1,4 @@
--- From a column to the offset at which it stands, and back to the column.
+-- From a column to its offset, and back to the column.
 use Rattle.std.proofs.Common.{◌≡◌, ℕ, suc, zero, ◌+◌, ◌-◌, Bool, true, false, cond, nat_le, List, [], ◌∷◌, length, get_or, take, Option, Some, None, option_map, refl, subst, arith, leb-true, ne_eqb}
 use Rattle.unit_text.specs.Units.{is_place}
 use Rattle.column_encodings.specs.declared.Encoding.{Encoding}
@@ -7,7 +7,7 @@ use Rattle.column_encodings.proofs.Characters.{characters_lone, characters_pair,
 use Rattle.column_encodings.proofs.Places.{place_at_start, place_after_lone, place_after_pair, lone_in_front}
 use Rattle.column_encodings.proofs.There.{at_start}
 
--- an offset that a choice gave came of what was found
+-- the offset is the size plus the found rest, and the condition was true
 record Came (taken : Bool) (found : Option ℕ) (size offset : ℕ) : Type 0 where
   rest : ℕ
   is_taken : taken ≡ true

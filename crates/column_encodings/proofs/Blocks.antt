@@ -1,4 +1,4 @@
--- ASCII units in front, seen through the mask of the others.
+-- Leading ASCII units, computed from the mask of the non-ASCII units.
 use Rattle.std.proofs.Common.{◌≡◌, ℕ, ◌+◌, ◌-◌, ◌%◌, ◌^◌, ◌<◌, ◌≤◌, Bool, not, cond, nat_le, List, [], ◌∷◌, map, length, drop, eqb, refl, sym, ap, ap₂, ◌∙◌, arith}
 use Rattle.std.proofs.lemmas.Bool.Decides.{nat_tests}
 use Rattle.std.proofs.lemmas.Bool.{eq-eqb, ne_eqb}
@@ -23,7 +23,7 @@ bitmask_splat_left w t x n ys long few =
 ascii_or_other : (unit : ℕ) → is_ascii unit ≡ not (nat_le 0x80 unit)
 ascii_or_other unit = grind (arith, nat_tests)
 
--- how many are ASCII in front of the first other
+-- the number of ASCII units before the first non-ASCII unit
 before_other : (units : List ℕ) → prefix_len is_ascii units ≡ prefix_len (λ unit. not (nat_le 0x80 unit)) units
 before_other [] = refl
 before_other (unit ∷ units) = ap₂ (λ b n. cond b (1 + n) 0) (ascii_or_other unit) (before_other units)
@@ -35,7 +35,7 @@ pub ascii_before : (units : List ℕ) → length units ≤ 64 → 0 < mask_l (ma
     → count_trailing_zeros 64 (mask_l (map (λ unit. nat_le 0x80 unit) units)) ≡ prefix_len is_ascii units
 ascii_before units few some = trailing_mask_l (λ unit. nat_le 0x80 unit) 64 units few some ∙ sym (before_other units)
 
--- a block in front of what stands behind it
+-- the leading ASCII units of a block and of the units after it
 with_block : (units : List ℕ) (at many : ℕ) → prefix_len is_ascii (drop at units)
     ≡ cond (eqb (prefix_len is_ascii (chunk at many units)) (length (chunk at many units)))
     (length (chunk at many units) + prefix_len is_ascii (drop (at + many) units)) (prefix_len is_ascii (chunk at many units))

@@ -1,4 +1,4 @@
--- There and back between places and columns.
+-- Round trips between offsets and columns.
 use Rattle.std.proofs.Common.{◌≡◌, ℕ, ◌+◌, ◌<◌, Bool, true, false, cond, List, ◌∷◌, ◌++◌, take, sum_by, Option, Some, None, refl, sym, ap, ◌∙◌}
 use Rattle.unit_text.specs.Units.{is_place}
 use Rattle.column_encodings.specs.declared.Encoding.{Encoding}
@@ -15,7 +15,7 @@ found_none : (found : Option ℕ) → ((offset : ℕ) → found ≡ Some offset 
 found_none None none = refl
 found_none (Some offset) none = absurd (none offset refl)
 
--- a place has a column, which leads back to the place
+-- a valid offset has a column, whose offset is the same
 pub column_of_place : (encoding : Encoding) (units : List ℕ) (offset : ℕ) → is_place units offset ≡ true
     → column_in encoding units offset ≡ Some (length_in encoding (take offset units))
 column_of_place encoding units offset place = rw place refl
@@ -34,20 +34,20 @@ offset_of_column encoding units column offset is =
     let parts = column_place encoding units column offset is in
     ap (offset_of encoding units) (sym parts.1) ∙ offset_of_place encoding units offset parts.0
 
--- an offset that a column leads to is a place, and has that column
+-- the offset of a column is valid, and has that column
 pub column_of_offset : (encoding : Encoding) (units : List ℕ) (column offset : ℕ) → offset_of encoding units column ≡ Some offset
     → column_in encoding units offset ≡ Some column
 column_of_offset encoding units column offset is =
     let back = place_of_offset encoding units column offset is in
     rw back.place (ap Some back.same)
 
--- a column that no place has leads nowhere
+-- a column that belongs to no valid offset has no offset
 pub no_offset : (encoding : Encoding) (units : List ℕ) (column : ℕ)
     → ((offset : ℕ) → column_in encoding units offset ≡ Some column → ⊥) → offset_of encoding units column ≡ None
 no_offset encoding units column none =
     found_none (offset_of encoding units column) (λ offset is. none offset (column_of_offset encoding units column offset is))
 
--- so does one inside a character
+-- a column inside a character has no offset
 pub no_offset_inside : (encoding : Encoding) (units : List ℕ) (before : List (List ℕ)) (character : List ℕ) (after : List (List ℕ)) (n : ℕ)
     → characters units ≡ before ++ character ∷ after → 0 < n → n < width encoding character
     → offset_of encoding units (sum_by (width encoding) before + n) ≡ None
@@ -55,7 +55,7 @@ no_offset_inside encoding units before character after n parts some within =
     ap (λ cs. offset_among encoding cs (sum_by (width encoding) before + n)) parts
     ∙ falls_inside encoding before character after n some within
 
--- and one beyond the end
+-- a column beyond the end has no offset
 pub no_offset_beyond : (encoding : Encoding) (units : List ℕ) (column : ℕ) → length_in encoding units < column
     → offset_of encoding units column ≡ None
 no_offset_beyond encoding units column beyond = falls_beyond encoding (characters units) column beyond

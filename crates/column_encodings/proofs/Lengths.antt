@@ -1,4 +1,4 @@
--- What is counted: the bytes of the line as UTF-8, its units, its code points.
+-- The length of a line in UTF-8 bytes, UTF-16 units and code points.
 use Rattle.std.proofs.Common.{◌≡◌, ℕ, ◌+◌, ◌<◌, ◌≤◌, true, false, ◌&&◌, nat_le, nat_lt, cond, Bool, List, [], ◌∷◌, length, get_or, All, unwrap_or, Some, None, encode_utf8, encode_utf8_all, refl, ap, ◌∙◌, arith, length-append, lt-ltb, le-ltb}
 use Rattle.std.proofs.lemmas.Bool.Decides.{nat_tests}
 use Rattle.std.proofs.lemmas.List.Elements.{All-head, All-tail}

@@ -1,4 +1,4 @@
--- Places, character by character.
+-- Valid offsets, character by character.
 use Rattle.std.proofs.Common.{◌≡◌, ℕ, suc, zero, ◌-◌, true, false, not, nat_le, nat_lt, List, [], ◌∷◌, length, get_or, take, refl, sym, ◌∙◌, arith, lt-ltb, le-leb}
 use Rattle.std.proofs.lemmas.Bool.Decides.{nat_tests}
 use Rattle.unit_text.specs.Units.{is_place}
@@ -8,7 +8,7 @@ use Rattle.column_encodings.proofs.Characters.{no_pair_at_end}
 pub place_at_start : (units : List ℕ) → is_place units 0 ≡ true
 place_at_start units = rw (le-leb 0 (length units) (omega arith))
 
--- an offset past the first unit, in what follows that unit
+-- an offset of at least 2 is valid exactly if the offset one less is valid in the units after the first unit
 place_past : (unit : ℕ) (after : List ℕ) (n : ℕ) → is_place (unit ∷ after) (suc (suc n)) ≡ is_place after (suc n)
 place_past unit after n =
     let far : suc (suc n) - 1 ≡ suc n = omega arith in
@@ -39,7 +39,7 @@ place_after_pair high low after n pair place =
     place_past high (low ∷ after) n
     ∙ place_after_lone low after n (low_begins_no_pair high low (get_or after 0 0) pair) place
 
--- a unit that begins no pair begins none in a front either
+-- a unit that does not begin a pair does not begin one in a prefix either
 pub lone_in_front : (unit : ℕ) (after : List ℕ) (n : ℕ) → is_pair unit (get_or after 0 0) ≡ false
     → is_pair unit (get_or (take n after) 0 0) ≡ false
 lone_in_front unit after zero lone = no_pair_at_end unit

@@ -1,4 +1,4 @@
--- From a place to its column, and back to the place.
+-- From a valid offset to its column, and back to the offset.
 use Rattle.std.proofs.Common.{◌≡◌, ℕ, suc, zero, ◌+◌, ◌-◌, ◌≤◌, true, false, nat_le, List, [], ◌∷◌, length, get_or, take, Some, option_map, refl, ap, ◌∙◌, arith, leb-true}
 use Rattle.std.proofs.lemmas.Bool.{and_parts}
 use Rattle.unit_text.specs.Units.{is_place}

@@ -1,4 +1,4 @@
--- In UTF-16 a place is its own column.
+-- In UTF-16 a valid offset is its own column.
 use Rattle.std.proofs.Common.{◌≡◌, ℕ, ◌≤◌, Bool, true, false, nat_le, List, length, take, IfSome, refl, sym, ap, ◌∙◌, leb-true, length-take-le}
 use Rattle.std.proofs.lemmas.Bool.{and_parts}
 use Rattle.std.specs.Bool.{then_some}
@@ -27,7 +27,7 @@ offset_by units column false place =
 pub offset_of-utf16 : (units : List ℕ) (column : ℕ) → offset_of Utf16 units column ≡ then_some (is_place units column) column
 offset_of-utf16 units column = offset_by units column _ refl
 
--- a place stands at the end or before it
+-- a valid offset is at most the length
 pub place_within : (units : List ℕ) (column : ℕ) (place : Bool) → place ≡ is_place units column → IfSome (then_some place column) (λ offset. offset ≤ length units)
 place_within units column true is = leb-true column (length units) (and_parts _ _ (sym is)).0
 place_within units column false is = tt

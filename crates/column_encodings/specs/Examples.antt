@@ -21,14 +21,14 @@ emoji_in_units = refl
 emoji_in_code_points : length_in Utf32 (0xD83D ∷ 0xDE00 ∷ []) ≡ 1
 emoji_in_code_points = refl
 
--- as U+FFFD
+-- an unpaired surrogate counts as U+FFFD
 lone_surrogate_in_bytes : length_in Utf8 (0xD83D ∷ []) ≡ 3
 lone_surrogate_in_bytes = refl
 
 lone_surrogate_in_code_points : length_in Utf32 (0xD83D ∷ []) ≡ 1
 lone_surrogate_in_code_points = refl
 
--- `aé€😀`, and then a low surrogate that stands in no pair
+-- `aé€😀`, and then an unpaired low surrogate
 abbrev line : List ℕ
 line = 0x61 ∷ 0xE9 ∷ 0x20AC ∷ 0xD83D ∷ 0xDE00 ∷ 0xDE00 ∷ []
 
@@ -39,7 +39,7 @@ its_characters = refl
 abbrev offsets : List ℕ
 offsets = 0 ∷ 1 ∷ 2 ∷ 3 ∷ 4 ∷ 5 ∷ 6 ∷ 7 ∷ []
 
--- offset 4 is inside the pair, offset 7 beyond the end
+-- offset 4 is inside the pair, offset 7 is beyond the end
 bytes_before :
     map (column_in Utf8 line) offsets ≡ Some 0 ∷ Some 1 ∷ Some 3 ∷ Some 6 ∷ None ∷ Some 10 ∷ Some 13 ∷ None ∷ []
 bytes_before = refl
@@ -52,7 +52,7 @@ code_points_before :
     map (column_in Utf32 line) offsets ≡ Some 0 ∷ Some 1 ∷ Some 2 ∷ Some 3 ∷ None ∷ Some 4 ∷ Some 5 ∷ None ∷ []
 code_points_before = refl
 
--- after `aé` stand three bytes; after one byte of `é`, or one of `€`, stands no place
+-- `aé` has three bytes; column 2 is inside `é`, column 4 inside `€`
 after_bytes : map (offset_of Utf8 line) (1 ∷ 2 ∷ 3 ∷ 4 ∷ 6 ∷ 10 ∷ 13 ∷ 14 ∷ [])
     ≡ Some 1 ∷ None ∷ Some 2 ∷ None ∷ Some 3 ∷ Some 5 ∷ Some 6 ∷ None ∷ []
 after_bytes = refl

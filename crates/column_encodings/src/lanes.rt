@@ -1,4 +1,4 @@
-//! ASCII by lanes: several units are looked at together.
+//! Counts leading ASCII units with SIMD lanes: several units are compared at once.
 #![tactic(auto)]
 
 ghost use Rattle.std.specs.Prelude.{◌≡◌, ◌+◌, ◌≤◌, nat_le, length, drop, map};
@@ -8,13 +8,13 @@ ghost use Rattle.std.specs.Simd.Lanes.{chunk, mask_l};
 
 use std::simd::prelude::*;
 
-/// How many units are looked at together.
+/// The number of units that are compared at once.
 const LANES: usize = 32;
 
-/// The first unit that is not ASCII.
+/// The smallest unit that is not ASCII.
 const BEYOND_ASCII: u16 = 0x80;
 
-/// How many units are ASCII in front of the first that is not.
+/// Returns the number of ASCII units before the first unit that is not ASCII.
 pub(crate) fn ascii_in_front(units: &[u16]) -> usize
     ensures ascii { result ≡ prefix_len is_ascii units.now }
     ensures within { result ≤ length units.now }
@@ -30,7 +30,7 @@ pub(crate) fn ascii_in_front(units: &[u16]) -> usize
     at + ascii_one_by_one(units, at)
 }
 
-// The same of `LANES` units alone.
+// Returns the number of leading ASCII units among the `LANES` units from `at` on.
 #[inline(always)]
 fn ascii_in_block(units: &[u16], at: usize) -> usize
     requires { at + 32 ≤ length units.now }
@@ -45,7 +45,8 @@ fn ascii_in_block(units: &[u16], at: usize) -> usize
     }
 }
 
-// Which of `LANES` units are not ASCII: a bit for each, the lowest for the first.
+// Returns a mask of the non-ASCII units among the `LANES` units from `at` on: one bit for each unit, the lowest bit for
+// the first unit.
 #[inline(always)]
 fn others_in_block(units: &[u16], at: usize) -> u64
     requires { at + 32 ≤ length units.now }
@@ -55,7 +56,7 @@ fn others_in_block(units: &[u16], at: usize) -> u64
     block.simd_ge(u16x32::splat(BEYOND_ASCII)).to_bitmask()
 }
 
-// The same of the units from a place on.
+// Returns the number of leading ASCII units from index `from` on, found one by one.
 fn ascii_one_by_one(units: &[u16], from: usize) -> usize
     requires { from ≤ length units.now }
     ensures ascii { result ≡ prefix_len is_ascii (drop from units.now) }

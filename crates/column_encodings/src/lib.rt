@@ -1,4 +1,4 @@
-//! Columns of a line, counted in bytes of UTF-8, in units of UTF-16 or in code points, as language servers count them.
+//! Columns of a line, counted in UTF-8 bytes, UTF-16 units or code points, as language servers count them.
 #![tactic(auto)]
 
 mod lanes;
@@ -11,19 +11,19 @@ ghost use Rattle.column_encodings.specs.Walk.{LeadsOn};
 use crate::lanes::ascii_in_front;
 use unit_text::cuts_pair;
 
-/// What a column counts.
+/// The unit in which a column is counted.
 #[derive(Clone, Copy, PartialEq, Eq, Debug)]
 pub enum Encoding {
-    /// Bytes of UTF-8.
+    /// UTF-8 bytes.
     Utf8,
-    /// Units of UTF-16.
+    /// UTF-16 code units.
     Utf16,
     /// Code points.
     Utf32,
 }
 
-/// How many bytes, units or code points stand before the place; None where the offset is no place of the units. A surrogate
-/// that stands in no pair counts as U+FFFD.
+/// Converts an offset into a column: returns the number of bytes, units or code points before it. Returns None if the
+/// offset is beyond the end or inside a pair of surrogates. An unpaired surrogate counts as U+FFFD.
 pub fn column_in(encoding: Encoding, units: &[u16], offset: u64) -> Option<u64>
     ensures { result ≡ column_in encoding units.now offset }
 {
@@ -33,8 +33,8 @@ pub fn column_in(encoding: Encoding, units: &[u16], offset: u64) -> Option<u64>
     Some(length_in(encoding, &units[..offset as usize]))
 }
 
-/// The place before which so many bytes, units or code points stand; None where that is inside a character or beyond the
-/// end. A surrogate that stands in no pair counts as U+FFFD.
+/// Converts a column, counted in bytes, units or code points, into an offset. Returns None if the column is inside a
+/// character or beyond the end. An unpaired surrogate counts as U+FFFD.
 pub fn offset_of(encoding: Encoding, units: &[u16], column: u64) -> Option<u64>
     ensures offset { result ≡ offset_of encoding units.now column }
     ensures within { IfSome result (λ offset. offset ≤ length units.now) }
@@ -75,10 +75,10 @@ fn length_in(encoding: Encoding, units: &[u16]) -> u64
     length
 }
 
-/// So many characters are gone over one by one before ASCII is looked for again.
+/// The maximum number of characters that are decoded one by one before the next search for ASCII.
 const STRETCH: usize = 64;
 
-// What the first characters take, and what stands behind them.
+// Returns the length of the first characters, at most `STRETCH` of them, and the units after them.
 fn past_characters(encoding: Encoding, units: &[u16]) -> (u64, &[u16])
     ensures length { length_in encoding units.now ≡ result.0 + length_in encoding result.1.now }
     ensures fewer { 0 < length units.now → length result.1.now < length units.now }
@@ -96,7 +96,8 @@ fn past_characters(encoding: Encoding, units: &[u16]) -> (u64, &[u16])
     (length, rest)
 }
 
-// What is left of the column behind the first characters, and what stands there; None where it is inside a character or beyond the end.
+// Passes over at most `STRETCH` characters. Returns the rest of the column and the units after them; None if the column
+// is inside a character or beyond the end.
 fn past_columns(encoding: Encoding, units: &[u16], column: u64) -> Option<(u64, &[u16])>
     requires { 0 < column }
     ensures none { IfNone result (offset_of encoding units.now column ≡ None) }
@@ -117,7 +118,7 @@ fn past_columns(encoding: Encoding, units: &[u16], column: u64) -> Option<(u64, 
     Some((left, rest))
 }
 
-// How many ASCII units stand in front, of which `most` at most are passed over, and what stands behind them.
+// Passes over the leading ASCII units, at most `most` of them. Returns their number and the units after them.
 fn past_ascii(units: &[u16], most: u64) -> (u64, &[u16])
     ensures few { result.0 ≤ most }
     ensures all { result.0 + length result.1.now ≡ length units.now }
@@ -132,7 +133,7 @@ fn past_ascii(units: &[u16], most: u64) -> (u64, &[u16])
     (front.len() as u64, behind)
 }
 
-// The units of the first character, and those after it.
+// Returns the units of the first character and the units after it; None if there are no units.
 fn split_character(units: &[u16]) -> Option<(&[u16], &[u16])>
     ensures none { IfNone result (units.now ≡ []) }
     ensures first { IfSome result
@@ -161,7 +162,7 @@ fn width(encoding: Encoding, character: &[u16]) -> u64
     }
 }
 
-// How many bytes of UTF-8 a unit takes that stands in no pair.
+// Returns the number of UTF-8 bytes of an unpaired unit. An unpaired surrogate has three, as U+FFFD has.
 fn lone_width(unit: u16) -> u64
     ensures { result ≡ lone_width unit }
 {

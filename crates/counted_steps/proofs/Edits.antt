@@ -1,4 +1,5 @@
--- The tree of a text agrees with the text after an edit, under its marks. Nothing is hidden, so each line begins in code.
+-- The tree of a text agrees with the text after an edit, under its marks. No bracket is hidden, so each line begins
+-- in code.
 use Rattle.std.proofs.Common.{◌≡◌, ℕ, ◌-◌, ◌+◌, List, [], ◌∷◌, length, map, Some, refl, ap, sym, subst, ◌∙◌}
 use Rattle.std.specs.Prelude.{replicate}
 use Rattle.std.proofs.lemmas.List.{length-map, length-replicate, take-map, drop-map}
@@ -25,7 +26,7 @@ use Rattle.counted_steps.specs.Edited.{IsMarkedEdit}
 
 -- ---- the lines of a text that nothing is hidden in
 
--- they begin in code
+-- the lines begin in code
 pub begins_in_code : (table : Table) (m : Marks) (lines : List (List ℕ)) → m ≡ no_marks
     → line_states (scanner table m) lines ≡ replicate (length lines) Code
 begins_in_code table m lines none = rw none (unmarked_states table lines)
@@ -34,7 +35,7 @@ all_in_code : (by : Scanner) (lines : List (List ℕ)) → lines_by by (replicat
 all_in_code by [] = refl
 all_in_code by (x ∷ lines) = ap (λ (rows : List Row). line_by by Code x ∷ rows) (all_in_code by lines)
 
--- each line is a row by itself
+-- each line is scanned to a row of its own
 plain_rows : Table → List (List ℕ) → List Row
 plain_rows table lines = map (line_by (plain_scanner table) Code) lines
 
@@ -83,13 +84,13 @@ agrees_edited table t before after marks good tight tells edit =
       rows = subst (λ (old : List Row). Agrees old marks now) (sym tells.spells) (rows_agree table before after marks edit);
     }
 
--- there is a mark for each line
+-- there is one mark for each line
 pub length_edited : (table : Table) (before after : List (List ℕ)) (marks : List Mark) → IsMarkedEdit before after marks
     → length marks ≡ length after
 length_edited table before after marks edit =
     (rows_agree table before after marks edit).count ∙ length-hidden_rows (plain_scanner table) after
 
--- a parse leaves a mark for each line
+-- a parse leaves one mark for each line
 pub length_clean : (lines : ℕ) → length (clean_marks lines) ≡ lines
 length_clean lines = length-kept_marks 1 lines
 

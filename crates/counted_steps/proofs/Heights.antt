@@ -1,4 +1,4 @@
--- How high a list of a tree may be whose leaves fit 64 bits.
+-- The height of a list in a tree whose leaves fit 64 bits.
 use Rattle.std.proofs.Common.{ℕ, ◌+◌, ◌<◌, ◌≤◌, ◌^◌, inl, inr, arith}
 use Rattle.std.proofs.lemmas.Nat.{pow_below}
 use Rattle.std.proofs.lemmas.Bool.{cases_lt}

@@ -1,4 +1,4 @@
--- What the lines of a text weigh together, where lines and units are few.
+-- The sum of the weights of the lines of a text with bounded numbers of lines and units.
 use Rattle.std.proofs.Common.{ℕ, suc, ◌+◌, ◌*◌, ◌<◌, ◌≤◌, ◌^◌, List, [], ◌∷◌, length, sum, arith}
 use Rattle.std.specs.Prelude.{All}
 use Rattle.std.proofs.lemmas.List.Sums.{sum_by-cons}

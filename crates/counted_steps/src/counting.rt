@@ -1,11 +1,11 @@
-//! An old text that counts the calls that ask it.
+//! An old text that counts its queries.
 
 use bracket_nodes::{Kinds, NodeRef};
 use node_reuse::{Old, Token};
 use steps::Steps;
 use text_lengths::Length;
 
-/// What a reader sees of an old text, and how often it asked it.
+/// What a reader sees of an old text, and the number of its queries.
 #[derive(Drop)]
 pub(crate) struct Counting<'c, O> {
     pub old: O,

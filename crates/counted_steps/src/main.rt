@@ -1,5 +1,5 @@
-//! Prints how many calls a reparse makes of the old text, beside the bound that its clause `steps` states. The status is 1
-//! where a count passes its bound.
+//! Prints the number of queries that a reparse makes of the old text, beside the bound that its clause `steps`
+//! states. The exit status is 1 if a count exceeds its bound.
 #![tactic(auto)]
 
 mod counting;
@@ -12,10 +12,10 @@ use shapes::{SHAPES, Shape};
 use std::io;
 use std::process::ExitCode;
 
-/// How many brackets a text has.
+/// The numbers of brackets of the texts.
 const SIZES: [u64; 5] = [100, 1_000, 10_000, 100_000, 1_000_000];
 
-/// Prints a row, and tells whether the count keeps within its bound.
+/// Prints a row, and returns whether the count is within its bound.
 fn print_row(rt: &HostRuntime, shape: Shape, brackets: u64, row: Measured) -> io::Result<bool> {
     let Measured {
         nesting,
@@ -34,7 +34,7 @@ fn print_row(rt: &HostRuntime, shape: Shape, brackets: u64, row: Measured) -> io
     Ok(row.bound().is_none_or(|bound| calls <= bound))
 }
 
-/// Prints the rows of a shape, and tells whether each keeps within its bound.
+/// Prints the rows of a shape, and returns whether all counts are within their bounds.
 fn print_shape(rt: &HostRuntime, shape: Shape) -> io::Result<bool> {
     let mut keeps = true;
     for brackets in SIZES {

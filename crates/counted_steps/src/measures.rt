@@ -1,4 +1,4 @@
-//! How often a reparse asks the old text.
+//! Counts the queries that a reparse makes of the old text.
 
 ghost use Rattle.std.specs.Prelude.{◌≡◌, ◌+◌, ◌*◌, ◌<◌, ◌≤◌, length, IfOk, OnOk, IfSome, IfNone};
 ghost use Rattle.hiding_rules.specs.Hidden.{plain_scanner};
@@ -22,27 +22,27 @@ use std::alloc::{AllocError, Global};
 use steps::Steps;
 use unit_text::Units;
 
-/// What a reparse took, and what its bound is made of.
+/// The cost of a reparse, and the numbers from which its bound is computed.
 #[derive(Clone, Copy)]
 pub(crate) struct Measured {
     pub nesting: u64,
     /// The greatest height of a list.
     pub highest: u64,
-    /// How many tokens the new line has.
+    /// The number of tokens of the new line.
     pub tokens: u64,
     pub calls: u64,
     ghost low: { highest ≤ 64 },
 }
 
 impl Measured {
-    /// So many calls of a reparse by this tree, for a new line of so many tokens.
+    /// Returns the measures of a reparse by this tree that made `calls` calls for a new line of `tokens` tokens.
     fn new(tree: &Node, tokens: u64, calls: u64) -> Measured
         ensures nesting { result.nesting ≡ nesting tree.now }
         ensures highest { result.highest ≡ highest tree.now }
         ensures tokens { result.tokens ≡ tokens }
         ensures calls { result.calls ≡ calls }
     {
-        // The leaves together fit 64 bits, so no list is higher than 64.
+        // The weight of all leaves fits 64 bits, so no list is higher than 64.
         let _length = tree.length();
         Measured {
             nesting: tree.nesting(),
@@ -52,8 +52,8 @@ impl Measured {
         }
     }
 
-    /// The most calls, where old tree and new line are within what the bound asks; each bracket of the texts of these shapes
-    /// is one of a pair.
+    /// Returns the bound on the calls; None if twice the nesting and the tokens together exceed `MOST_OPEN`, the
+    /// premise of the bound. In the texts of these shapes every bracket is one of a pair.
     pub(crate) fn bound(self) -> Option<u64>
         ensures some { IfSome result (λ bound.
             bound ≡ most_steps self.nesting self.highest self.tokens) }
@@ -68,7 +68,7 @@ impl Measured {
     }
 }
 
-/// What the reparse takes of a text of this shape whose line in the middle becomes this one.
+/// Measures the reparse of a text of this shape whose middle line is replaced by this one.
 pub(crate) fn measure(
     alloc: Global,
     shape: Shape,
@@ -87,7 +87,7 @@ fn measure_in(alloc: Global, mut text: TextLines, line: Units) -> Result<Measure
     let mut tokens = Vec::new(alloc);
     table.scan(line.as_slice(), &mut tokens)?;
     let (parsed, mut states) = first_parse(alloc, &table, &mut text, &mut steps)?;
-    // It tells that the tree meets the rules of nodes.
+    // Establishes that the tree meets the rules of nodes.
     let _length = parsed.tree().length();
     edit_middle(&mut text, &mut states, line)?;
     let settled = states.in_code();
@@ -101,7 +101,7 @@ fn measure_in(alloc: Global, mut text: TextLines, line: Units) -> Result<Measure
     Ok(Measured::new(parsed.tree(), tokens.len() as u64, calls))
 }
 
-/// The parse of a text that was not parsed before, and the states of its lines.
+/// Parses a text that was not parsed before. Returns the parse and the states of the lines.
 #[tactic(auto, using(crate::proofs::Edits::laws))]
 fn first_parse<L>(
     alloc: Global,
@@ -125,7 +125,7 @@ fn first_parse<L>(
     Ok((parsed, states))
 }
 
-/// Puts the line in the middle of the text, which was parsed, and marks it.
+/// Replaces the middle line of the text, which was parsed, and marks it.
 #[tactic(auto, using(crate::proofs::Edits::length_clean))]
 fn edit_middle(text: &mut TextLines, states: &mut States, line: Units) -> Result<(), AllocError>
     requires { states.old.marks ≡ clean_marks (length text.old.lines.items) }

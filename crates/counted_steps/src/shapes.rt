@@ -1,4 +1,4 @@
-//! Texts of brackets, each of which is one of a pair.
+//! Texts of brackets, all of them paired.
 
 use crate::text_lines::TextLines;
 use std::alloc::{AllocError, Global};
@@ -8,13 +8,13 @@ const OPEN: u16 = 0x28;
 
 const CLOSE: u16 = 0x29;
 
-/// A text of pairs. Its rings stand inside one another, with one bracket a line. Before and behind each ring stand equally
-/// many lines with a pair, and the pairs that are left stand in the innermost ring.
+/// A text of pairs. Its rings are nested, with one bracket a line. Each ring has the same number of lines with a pair
+/// before it and after it; the remaining pairs are in the innermost ring.
 #[derive(Clone, Copy)]
 pub(crate) struct Shape {
     pub name: &'static str,
     pub rings: u64,
-    /// What comes in place of the line in the middle.
+    /// The replacements of the middle line.
     pub lines: [&'static str; 2],
 }
 
@@ -42,12 +42,12 @@ pub(crate) const SHAPES: [Shape; 4] = [
 ];
 
 impl Shape {
-    /// Whether so many brackets are enough for the rings and a pair in the innermost.
+    /// Whether this number of brackets suffices for the rings and a pair in the innermost one.
     pub(crate) fn fits(self, brackets: u64) -> bool {
         self.rings < brackets / 2
     }
 
-    /// A text of so many brackets, behind an empty line.
+    /// Returns a text of `brackets` brackets after an empty line.
     pub(crate) fn text(self, alloc: Global, brackets: u64) -> Result<TextLines, AllocError> {
         let pairs = brackets / 2;
         let beside = pairs
@@ -72,7 +72,7 @@ impl Shape {
     }
 }
 
-/// So many lines with a pair.
+/// Appends `pairs` lines with a pair each.
 fn push_pairs(alloc: Global, text: &mut TextLines, pairs: u64) -> Result<(), AllocError> {
     for _pair in 0..pairs {
         text.push(alloc, &[OPEN, CLOSE])?;
@@ -80,7 +80,7 @@ fn push_pairs(alloc: Global, text: &mut TextLines, pairs: u64) -> Result<(), All
     Ok(())
 }
 
-/// The units of a line.
+/// Returns the units of a line.
 pub(crate) fn line_of(alloc: Global, line: &str) -> Result<Units, AllocError> {
     let mut units = Vec::new(alloc);
     units_of(line, &mut units)?;

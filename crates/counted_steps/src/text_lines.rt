@@ -8,13 +8,13 @@ use std::alloc::{AllocError, Global};
 use steps::Trail;
 use unit_text::Units;
 
-/// No text has as many lines.
+/// An upper bound, excluded, for the number of lines of a text.
 const LINE_LIMIT: usize = 1 << 40;
 
-/// No line has as many units.
+/// An upper bound, excluded, for the number of units of a line.
 const UNIT_LIMIT: usize = 1 << 16;
 
-/// The lines of a text, and the numbers of those that were asked for, which only proofs read.
+/// The lines of a text, and the numbers of those asked for, which only proofs read.
 #[derive(Drop)]
 pub(crate) struct TextLines {
     lines: Vec<Units>,
@@ -25,7 +25,7 @@ pub(crate) struct TextLines {
 }
 
 impl TextLines {
-    /// An empty line.
+    /// Returns a text of one empty line.
     pub(crate) fn new(alloc: Global) -> Result<TextLines, AllocError>
         ensures { IfOk result (λ text. text.lines.items ≡ [] ∷ []) }
     {
@@ -37,7 +37,7 @@ impl TextLines {
         })
     }
 
-    /// How many lines there are.
+    /// Returns the number of lines.
     pub(crate) fn count(&self) -> u64
         ensures count { result ≡ length self.now.lines.items }
         ensures some { 0 < result }
@@ -46,7 +46,7 @@ impl TextLines {
         self.lines.len() as u64
     }
 
-    /// Adds a line at the end. An error where there is no room for it.
+    /// Appends a line. Fails if there is no room for it.
     pub(crate) fn push(&mut self, alloc: Global, line: &[u16]) -> Result<(), AllocError>
         ensures { OnOk result (self.new.lines.items ≡ self.old.lines.items ++ line.now ∷ []) }
     {
@@ -57,7 +57,7 @@ impl TextLines {
         Ok(())
     }
 
-    /// Puts another line in the place of line `n`. An error where there is no room for it.
+    /// Replaces line `n`, counted from 1. Fails if there is no room for the new line.
     pub(crate) fn put(&mut self, n: u64, line: Units) -> Result<(), AllocError>
         requires first { 1 ≤ n }
         requires there { n ≤ length self.old.lines.items }

@@ -1,4 +1,4 @@
--- The lines of a text keep their contents where its line endings become those of a kind.
+-- The lines of a text keep their contents when its line endings are replaced by those of a kind.
 use Rattle.std.proofs.Common.{◌≡◌, ℕ, List, [], ◌∷◌, map, refl, ap, sym, ◌∙◌}
 use Rattle.unit_text.specs.declared.kind.Kind.{Kind}
 use Rattle.unit_text.specs.declared.kind.Kind.TheVariants.{Mixed, Lf, Crlf}
@@ -24,6 +24,6 @@ contents_in Crlf lines = contents_with pairs lines
 pub contents-normalized : (kind : Kind) (x : List ℕ) → HaveSameContents x (normalized kind x)
 contents-normalized kind x = contents_in kind (lines_of x) ∙ ap contents (sym (lines_of-normalized kind x))
 
--- and the other way round
+-- the same for the opposite direction
 pub contents-of_normalized : (kind : Kind) (x : List ℕ) → HaveSameContents (normalized kind x) x
 contents-of_normalized kind x = sym (contents-normalized kind x)

@@ -1,4 +1,4 @@
--- Decorations lie in the text, through edits and changes.
+-- Decorations stay within the text after edits and after changes of decorations.
 use Rattle.std.proofs.Common.{◌≡◌, ℕ, ◌+◌, ◌-◌, ◌<◌, ◌≤◌, false, not, ◌&&◌, ◌||◌, cond, ltb, leb, eqb, inl, inr, List, [], ◌∷◌, ◌++◌, length, map, Result, Ok, Err, sym, ◌∙◌, subst, arith}
 use Rattle.std.specs.List.{list_any, All}
 use Rattle.std.proofs.lemmas.Bool.{or_parts, and_parts, ltb-false, leb-true, not-false, cases_Bool, cond-true, cond-false}
@@ -30,13 +30,13 @@ LieIn-map_moved edit marks len lie upright_edit edit_in =
     subst (λ (m : Mark). IsSpanIn m.span (len - removed edit + edit.units)) source.2
     (moved-within source.0.span source.0.sticky source.0.collapse edit len (has-All (λ (m : Mark). IsSpanIn m.span len) marks source.0 lie source.1) upright_edit edit_in))
 
--- after the edit they lie in the text of then
+-- after the edit they lie within the new text
 pub LieIn-moved : (edit : Edit) (marks : List Mark) (len : ℕ) → LieIn len marks → edit.start ≤ edit.end → edit.end ≤ len
     → LieIn (len - removed edit + edit.units) (in_order (map (moved_mark edit) marks))
 LieIn-moved edit marks len lie upright_edit edit_in =
     LieIn-in_order (len - removed edit + edit.units) (map (moved_mark edit) marks) (LieIn-map_moved edit marks len lie upright_edit edit_in)
 
--- no offset passes the limit where the text of then does not
+-- no offset reaches the limit if the length of the new text is below it
 pub moved_mark-fits : (edit : Edit) (marks : List Mark) (len : ℕ) → LieIn len marks → edit.start ≤ edit.end → edit.end ≤ len → len - removed edit + edit.units < offset_limit
     → All (λ (mark : Mark). (moved_mark edit mark).span.end < offset_limit) marks
 moved_mark-fits edit marks len lie upright_edit edit_in fits =
@@ -71,7 +71,7 @@ LieIn-new_marks kind units owner id (new ∷ more) good =
     All-cons (λ (m : Mark). IsSpanIn m.span (length units)) (new_mark owner id new) (new_marks owner (id + 1) more)
     (IsNewIn-from_good kind units new parts.0).span (LieIn-new_marks kind units owner (id + 1) more parts.1)
 
--- what an accepted change was, and makes
+-- the conditions under which a change is accepted, and its result
 pub record IsAccepted (d : Decorations) (owner : ℕ) (ids : List ℕ) (add : List NewDeco) (kind : Kind) (units : List ℕ) (new : Decorations) : Type 0 where
   pub known : is_unknown d.marks owner ids ≡ false
   pub good : list_any (is_bad kind units) add ≡ false

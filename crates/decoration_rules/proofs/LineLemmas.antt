@@ -1,4 +1,4 @@
--- Decorations that go with their lines keep their order, and stay within the text.
+-- Decorations that move with their lines keep their order and stay within the text.
 use Rattle.std.proofs.Common.{◌≡◌, ℕ, ◌+◌, ◌<◌, ◌≤◌, suc, zero, true, false, leb, inl, inr, List, [], ◌∷◌, length, map, get_or, refl, sym, ◌∙◌, ap, subst, arith}
 use Rattle.std.specs.List.{All, AllPairs, AllWithin}
 use Rattle.std.proofs.lemmas.Bool.{cases_lt, cond-true, cond-false}
@@ -24,7 +24,7 @@ module _ {X : Type 0} (R : X → X → Type 0) where
   pairs_tail : (x : X) (xs : List X) → AllPairs R (x ∷ xs) → AllPairs R xs
   pairs_tail x xs h i j d lt within = h (suc i) (suc j) d (omega arith) (omega arith)
 
--- lines from one on
+-- the line moves are in order, beginning with `line`
 record AreInARow (line : LineMove) (lines : List LineMove) : Type 0 where
   pub rising : AllPairs StartsLater (line ∷ lines)
   pub apart : AllPairs EndsBefore (line ∷ lines)
@@ -62,11 +62,11 @@ first_line line next lines place row lt =
     cond-false (leb next.old place) (line_of next lines place) (line_of line lines place) (is_later place next.old lt)
     ∙ none_later line lines place (λ k d within. let h = later k d within in omega (arith, h, lt))
 
--- where a place stands that is carried from one of the lines on
+-- the new offset of an offset whose line is one of these
 abbrev carried_from : LineMove → List LineMove → ℕ → ℕ
 carried_from line lines place = place_in (line_of line lines place) place
 
--- What is said of a place of the first line, and of one that goes with the later ones, holds of it.
+-- A property holds for the new offset if it holds in both cases: the offset is in the first line, or in a later one.
 by_line : (P : ℕ → Type 0) (line next : LineMove) (lines : List LineMove) (place : ℕ) → AreInARow line (next ∷ lines)
     → (place < next.old → P (place_in line place)) → (next.old ≤ place → P (carried_from next lines place)) → P (carried_from line (next ∷ lines) place)
 by_line P line next lines place row first later = elim (cases_lt place next.old) [
@@ -109,12 +109,12 @@ pub carried_place-rises : (lines : List LineMove) (a b : ℕ) → AreLineMoves l
 carried_place-rises [] a b are le = le
 carried_place-rises (line ∷ lines) a b are le = keeps_order line lines a b (in_a_row line lines are) le
 
--- no place is carried past the last line
+-- no offset moves beyond the end of the last line
 pub carried_place-within : (lines : List LineMove) (place : ℕ) → AreLineMoves lines → carried_place lines place ≤ length_now lines
 carried_place-within [] place are = absurd are.first
 carried_place-within (line ∷ lines) place are = ends_no_higher line lines place (in_a_row line lines are)
 
--- nor does any line end behind it
+-- no line ends beyond the end of the last line
 pub lines-within : (lines : List LineMove) → AreLineMoves lines → All (λ line. line.new + line.content ≤ length_now lines) lines
 lines-within [] are = absurd are.first
 lines-within (line ∷ lines) are = each line lines (in_a_row line lines are)
@@ -124,7 +124,8 @@ lines-within (line ∷ lines) are = each line lines (in_a_row line lines are)
     each first [] row (suc k) d within = absurd (omega arith)
     each first (next ∷ rest) row (suc k) d within = each next rest (from_next first next rest row) k d (omega arith)
 
--- a place of the line at an index, by which none of the later ones had started
+-- the new offset of an offset in the line at index `at`: that line started at or before the offset, all later lines
+-- after it
 pub carried_place-at : (lines : List LineMove) (place at : ℕ) (d : LineMove) → AreLineMoves lines → at < length lines → (get_or lines at d).old ≤ place
     → AllWithin (λ line. place < line.old) lines (at + 1) (length lines) → carried_place lines place ≡ place_in (get_or lines at d) place
 carried_place-at [] place at d are within started later = absurd are.first
@@ -145,7 +146,7 @@ pub carried_mark-upright : (lines : List LineMove) (mark : Mark) → AreLineMove
     → (carried_mark lines mark).span.start ≤ (carried_mark lines mark).span.end
 carried_mark-upright lines mark are upright = carried_place-rises lines mark.span.start mark.span.end are upright
 
--- those that lay in the text of before lie in the text of now
+-- decorations within the old text lie within the new text
 pub LieIn-carried : (lines : List LineMove) (len : ℕ) (marks : List Mark) → AreLineMoves lines → LieIn len marks → LieIn (length_now lines) (carried_with_lines lines marks)
 LieIn-carried lines len marks are lie =
     LieIn-in_order (length_now lines) (map (carried_mark lines) marks)

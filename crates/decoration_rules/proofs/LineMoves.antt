@@ -1,4 +1,4 @@
--- How the lines of a text move where each keeps its content.
+-- Line moves between two texts whose lines have the same contents.
 use Rattle.std.proofs.Common.{◌≡◌, ℕ, ◌+◌, ◌<◌, ◌≤◌, ◌==◌, Bool, true, false, ◌&&◌, ◌||◌, if◌then◌else◌, List, [], ◌∷◌, length, map, sum_by, suc, refl, ap, ap₂, sym, subst, ◌∙◌, zero-add, arith}
 use Rattle.std.specs.List.{All, AllPairs}
 use Rattle.std.proofs.lemmas.Bool.{eqb-true}
@@ -12,14 +12,14 @@ use Rattle.text_rules.specs.Lines.{Line, lines_of, line_length, line_feed, carri
 use Rattle.decoration_rules.specs.LineMoves.{moves_from, line_moves, HaveSameContents, turned}
 use Rattle.decoration_rules.proofs.Contents.{contents}
 
--- The lines of a text: each has a break but the last, which has none.
+-- The lines of a text: each line except the last has a break.
 
 abbrev pub EndAsLines : List Line → Type 0
 EndAsLines [] = ⊥
 EndAsLines (line ∷ []) = line.break ≡ []
 EndAsLines (line ∷ next ∷ lines) = (0 < length line.break) × EndAsLines (next ∷ lines)
 
--- with another line in front
+-- the property is kept if another line is added in front
 one_in_front : (line : Line) (lines : List Line) → 0 < length line.break → EndAsLines lines → EndAsLines (line ∷ lines)
 one_in_front line [] some ends = absurd ends
 one_in_front line (next ∷ lines) some ends = (some, ends)
@@ -34,7 +34,7 @@ ends_in_first_break : (u : ℕ) (line : Line) (lines : List Line) → 0 < length
 ends_in_first_break u line [] some ends = let none : length line.break ≡ 0 = ap length ends in absurd (omega arith)
 ends_in_first_break u line (next ∷ lines) some ends = (omega arith, ends.1)
 
--- a CR joins the break of the LF behind it
+-- the property is kept if a CR joins the break of the LF after it
 ends_with_pair : (u : ℕ) (after : List ℕ) → begins_with line_feed after ≡ true → EndAsLines (lines_of after)
     → EndAsLines (in_first_break u (lines_of after))
 ends_with_pair u [] begins ends = absurd cc
@@ -57,7 +57,7 @@ lines_of-ends [] = refl
 lines_of-ends (u ∷ after) =
     ends_step u (u == carriage_return) (begins_with line_feed after) (u == carriage_return || u == line_feed) after refl (lines_of-ends after)
 
--- How long the lines of a text are together.
+-- The length of the lines of a text together.
 
 length_step : (u : ℕ) (joins ends : Bool) (lines : List Line) → EndAsLines lines
     → sum_by line_length (if joins then in_first_break u lines else (if ends then record { content = []; break = u ∷ [] } ∷ lines else in_first_line u lines))
@@ -76,9 +76,9 @@ length-lines_of (u ∷ after) =
     length_step u (u == carriage_return && begins_with line_feed after) (u == carriage_return || u == line_feed) (lines_of after) (lines_of-ends after)
     ∙ ap suc (length-lines_of after)
 
--- Where the lines start, in both texts.
+-- The start offsets of the lines in both texts.
 
--- the first contents are the same, and so are the others
+-- if two lists of lines have the same contents, so have their first lines and their rests
 pub same_content : (line next : Line) (before after : List Line) → contents (line ∷ before) ≡ contents (next ∷ after)
     → (length line.content ≡ length next.content) × (contents before ≡ contents after)
 same_content line next before after same = let first : line.content ≡ next.content = cc in (ap length first, cc)
@@ -92,7 +92,7 @@ StartsLater line later = line.old < later.old
 abbrev EndsBefore : LineMove → LineMove → Type 0
 EndsBefore line later = line.new + line.content ≤ later.new
 
--- lines from these places on
+-- the line moves start at or after these two offsets and are in order
 record AreInARow (old new : ℕ) (lines : List LineMove) : Type 0 where
   pub behind : All (StartsFrom old new) lines
   pub rising : AllPairs StartsLater lines
@@ -149,7 +149,7 @@ starts_text new (line ∷ before) (next ∷ after) same ends = refl
 
 -- The laws.
 
--- the second text is as long as its lines say
+-- the second text has the length that its lines give
 pub length_now-moves : (x y : List ℕ) → HaveSameContents x y → length_now (line_moves x y) ≡ length y
 length_now-moves x y same =
     length_now-moves_from 0 0 (lines_of x) (lines_of y) same (lines_of-ends y) ∙ zero-add _ ∙ length-lines_of y
@@ -163,7 +163,7 @@ are_line_moves x y same fits =
       fits = omega (arith, fits, length_now-moves x y same);
     }
 
--- on the way back the lines move the other way round
+-- the line moves of the opposite direction are the reversed line moves
 turned-moves_from : (old new : ℕ) (before after : List Line) → contents before ≡ contents after
     → moves_from new old after before ≡ map turned (moves_from old new before after)
 turned-moves_from old new [] [] same = refl

@@ -1,4 +1,4 @@
--- What stays of a list of decorations, and of its order, when one is put in, some are taken out, or all are moved.
+-- Members and order of a list of decorations after one is inserted, some are removed, or all are moved.
 use Rattle.std.proofs.Common.{◌≡◌, ℕ, Bool, true, false, not, ◌||◌, eqb, ◌⊎◌, inl, inr, List, [], ◌∷◌, ◌++◌, map, refl, sym, ◌∙◌, ap, subst, suc, length, Some, None}
 use Rattle.std.specs.Prelude.{filter}
 use Rattle.std.specs.List.{list_any, list_all, All}
@@ -9,7 +9,7 @@ use Rattle.decoration_rules.specs.Moves.{moved_mark, moved_by_all}
 use Rattle.decoration_rules.specs.Marks.{stands_before, put_in_order, in_order, carried, IsInOrder, has_id, is_live, mark_of, HasDistinctIds, without}
 use Rattle.decoration_rules.proofs.OrderLemmas.{Has, HaveSame, All-has, has-All, list_all-at, list_all-from, list_any-at, list_any-none, stands_before-trans, stands_before-total, IsInOrder-unique}
 
--- One is put in.
+-- Insertion of one decoration.
 
 pub Has-put : (m : Mark) (xs : List Mark) (q : Mark) → Has (m ∷ xs) q → Has (put_in_order m xs) q
 Has-put m [] q has = has
@@ -54,7 +54,7 @@ IsInOrder-put m (x ∷ xs) fresh ordered =
       IsInOrder-put m xs (or_parts (has_id m.id x) (is_live xs m.id) fresh).1 ordered.1,
     ))
 
--- All are put in.
+-- Insertion of all decorations: the sort.
 
 pub Has-in_order : (xs : List Mark) (q : Mark) → Has xs q → Has (in_order xs) q
 Has-in_order [] q has = has
@@ -80,7 +80,7 @@ pub IsInOrder-in_order : (xs : List Mark) → HasDistinctIds xs → IsInOrder (i
 IsInOrder-in_order [] distinct = tt
 IsInOrder-in_order (x ∷ xs) distinct = IsInOrder-put x (in_order xs) (is_live-same xs (in_order xs) x.id (HaveSame-in_order xs) distinct.0) (IsInOrder-in_order xs distinct.1)
 
--- what holds of each in either list holds of each in the other
+-- a property of all members of a list holds for all members of the sorted list
 pub All-in_order : (P : Mark → Type 0) (xs : List Mark) → All P xs → All P (in_order xs)
 All-in_order P xs all = All-has P (in_order xs) (λ q has. has-All P xs q all (Has-from_in_order xs q has))
 
@@ -96,7 +96,7 @@ pub length-in_order : (xs : List Mark) → length (in_order xs) ≡ length xs
 length-in_order [] = refl
 length-in_order (x ∷ xs) = length-put_in_order x (in_order xs) ∙ ap suc (length-in_order xs)
 
--- a list in order with the same marks is the list put in order
+-- a list in order with the same members is the sorted list
 pub in_order-unique : (xs ys : List Mark) → HasDistinctIds xs → IsInOrder ys → HaveSame xs ys → ys ≡ in_order xs
 in_order-unique xs ys distinct ordered same =
     IsInOrder-unique ys (in_order xs) ordered (IsInOrder-in_order xs distinct) (HaveSame-trans ys xs (in_order xs) (HaveSame-sym xs ys same) (HaveSame-in_order xs))
@@ -105,7 +105,7 @@ pub in_order-same : (xs ys : List Mark) → HasDistinctIds xs → HasDistinctIds
 in_order-same xs ys distinct_xs distinct_ys same =
     in_order-unique ys (in_order xs) distinct_ys (IsInOrder-in_order xs distinct_xs) (HaveSame-trans ys xs (in_order xs) (HaveSame-sym xs ys same) (HaveSame-in_order xs))
 
--- what is in order stays
+-- sorting does not change a list in order
 pub in_order-ordered : (xs : List Mark) → IsInOrder xs → in_order xs ≡ xs
 in_order-ordered [] ordered = refl
 in_order-ordered (x ∷ []) ordered = refl
@@ -156,7 +156,7 @@ distinct_append (x ∷ xs) m fresh distinct = (
   distinct_append xs m (or_parts (has_id m.id x) (is_live xs m.id) fresh).1 distinct.1,
 )
 
--- in order, with one more at the end of what is put in order
+-- sorting a list with one more mark at the end inserts that mark into the sorted list
 pub in_order-append : (xs : List Mark) (m : Mark) → HasDistinctIds xs → is_live xs m.id ≡ false → in_order (xs ++ m ∷ []) ≡ put_in_order m (in_order xs)
 in_order-append xs m distinct fresh =
     sym (in_order-unique (xs ++ m ∷ []) (put_in_order m (in_order xs)) (distinct_append xs m fresh distinct)
@@ -166,7 +166,7 @@ in_order-append xs m distinct fresh =
       from = λ q has. Has-append xs m q (elim (Has-from_put m (in_order xs) q has) [ inl here ↦ inr here | inr there ↦ inl (Has-from_in_order xs q there) ]);
     }))
 
--- Some are taken out.
+-- Removal of decorations.
 
 pub Has-filter : (p : Mark → Bool) (xs : List Mark) (q : Mark) → Has xs q → p q ≡ true → Has (filter p xs) q
 Has-filter p [] q has pass = absurd has
@@ -224,7 +224,7 @@ without-none id (x ∷ xs) none =
     cond-true (not (has_id id x)) (x ∷ without id xs) (without id xs) (ap not (or_parts (has_id id x) (is_live xs id) none).0)
     ∙ ap (λ ms. x ∷ ms) (without-none id xs (or_parts (has_id id x) (is_live xs id) none).1)
 
--- All are changed.
+-- Change of all decorations.
 
 pub Has-map : (f : Mark → Mark) (xs : List Mark) (q : Mark) → Has xs q → Has (map f xs) (f q)
 Has-map f [] q has = absurd has
@@ -257,13 +257,13 @@ distinct_map f keeps [] distinct = tt
 distinct_map f keeps (x ∷ xs) distinct =
     (ap (is_live (map f xs)) (keeps x) ∙ is_live-map f keeps xs x.id ∙ distinct.0, distinct_map f keeps xs distinct.1)
 
--- to put in order first, and change then, makes no difference
+-- sorting before the change makes no difference to the sorted result
 pub in_order-map : (f : Mark → Mark) → ((m : Mark) → (f m).id ≡ m.id) → (xs : List Mark) → HasDistinctIds xs → in_order (map f (in_order xs)) ≡ in_order (map f xs)
 in_order-map f keeps xs distinct = in_order-same (map f (in_order xs)) (map f xs)
     (distinct_map f keeps (in_order xs) (distinct_in_order xs distinct)) (distinct_map f keeps xs distinct)
     (HaveSame-map f (in_order xs) xs (HaveSame-sym xs (in_order xs) (HaveSame-in_order xs)))
 
--- The one of an id.
+-- The decoration with a given id.
 
 pub mark_of-has : (xs : List Mark) (q : Mark) → HasDistinctIds xs → Has xs q → mark_of xs q.id ≡ Some q
 mark_of-has [] q distinct has = absurd has
@@ -293,7 +293,7 @@ moved_by_all-id : (edits : List Edit) (m : Mark) → (moved_by_all edits m).id �
 moved_by_all-id [] m = refl
 moved_by_all-id (edit ∷ edits) m = moved_by_all-id edits m
 
--- the first edit of a batch comes last
+-- the first edit of a batch is applied last
 pub carried-first : (edit : Edit) (edits : List Edit) (xs : List Mark) → HasDistinctIds xs
     → carried xs (edit ∷ edits) ≡ in_order (map (moved_mark edit) (carried xs edits))
 carried-first edit edits xs distinct =

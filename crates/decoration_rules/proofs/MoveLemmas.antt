@@ -1,4 +1,4 @@
--- A decoration stays within the text under each edit of it.
+-- A decoration stays within the text after each edit.
 use Rattle.std.proofs.Common.{◌≡◌, ℕ, ◌+◌, ◌-◌, ◌≤◌, Bool, true, not, ◌&&◌, ltb, eqb, inl, inr, arith}
 use Rattle.std.proofs.lemmas.Bool.{cond_both, ltb-true, eqb-true, or_cases, and_parts}
 use Rattle.text_lengths.specs.declared.Span.{Span}
@@ -6,7 +6,7 @@ use Rattle.decoration_rules.specs.declared.Edit.{Edit}
 use Rattle.decoration_rules.specs.declared.Sticky.{Sticky}
 use Rattle.decoration_rules.specs.Moves.{AtPlace, at_start, at_replaced, at_end, stays_before, stays_at, removed, replaced, moved_offset, IsSpanIn, moved, is_taken, upright, start_sticks, end_sticks}
 
--- what stays before a place is not above it
+-- an offset that stays before a place is at most that place
 pub offset-stays_before : (rule : AtPlace) (sticks : Bool) (offset place : ℕ) → stays_before rule sticks offset place ≡ true → offset ≤ place
 offset-stays_before rule sticks offset place stays =
     elim (or_cases (ltb offset place) (eqb offset place && stays_at rule sticks) stays) [
@@ -25,7 +25,7 @@ moved_offset-within sticks offset edit len offset_in upright_edit edit_in =
     (λ _. cond_both (stays_before (at_end edit) sticks offset edit.end) (edit.start + edit.units) _ P
     (λ _. omega arith) (λ _. omega arith)))
 
--- a span of the text is moved to a span of the text after the edit
+-- a span within the text moves to a span within the text after the edit
 pub moved-within : (span : Span) (sticky : Sticky) (collapse : Bool) (edit : Edit) (len : ℕ) → IsSpanIn span len → edit.start ≤ edit.end → edit.end ≤ len
     → IsSpanIn (moved span sticky collapse edit) (len - removed edit + edit.units)
 moved-within span sticky collapse edit len span_in upright_edit edit_in =
@@ -39,7 +39,7 @@ moved-within span sticky collapse edit len span_in upright_edit edit_in =
     (λ _. record { upright = omega arith; within = omega arith })
     (λ _. record { upright = omega arith; within = omega arith })
 
--- it stays upright under any edit
+-- the start of a moved span is at most its end
 pub moved-upright : (span : Span) (sticky : Sticky) (collapse : Bool) (edit : Edit) → (moved span sticky collapse edit).start ≤ (moved span sticky collapse edit).end
 moved-upright span sticky collapse edit =
     cond_both (collapse && is_taken span edit) (record { start = edit.start; end = edit.start })

@@ -1,4 +1,4 @@
--- The order of decorations: there is one list in order of the same ones.
+-- The order of decorations: a set of decorations has exactly one list in order.
 use Rattle.std.proofs.Common.{◌≡◌, ℕ, ◌<◌, zero, suc, length, get_or, Bool, true, false, ◌||◌, eqb, ◌⊎◌, inl, inr, List, [], ◌∷◌, refl, sym, ◌∙◌, ap, subst, arith}
 use Rattle.std.specs.List.{list_any, list_all, Contains, All}
 use Rattle.std.proofs.lemmas.Bool.{or_cases, or_parts, or_from, or_left, and_parts, and_from, both_ways}
@@ -6,7 +6,7 @@ use Rattle.std.proofs.lemmas.Bool.Decides.{nat_tests}
 use Rattle.decoration_rules.specs.declared.Mark.{Mark}
 use Rattle.decoration_rules.specs.Marks.{stands_before, IsInOrder}
 
--- Before.
+-- The relation `stands_before`.
 
 pub stands_before-itself : (a : Mark) → stands_before a a ≡ false
 stands_before-itself a = grind (arith, nat_tests)
@@ -17,13 +17,14 @@ stands_before-trans a b c ab bc = grind (arith, nat_tests)
 pub stands_before-total : (a b : Mark) → eqb a.id b.id ≡ false → stands_before a b ≡ false → stands_before b a ≡ true
 stands_before-total a b apart not_before = grind (arith, nat_tests)
 
--- Which marks a list has.
+-- The members of a list of marks.
 
 abbrev pub Has : List Mark → Mark → Type 0
 Has [] q = ⊥
 Has (m ∷ ms) q = (m ≡ q) ⊎ Has ms q
 
--- what a list says of its first mark and of its rest, it says of each mark that it has
+-- if a property of lists gives `Is` for the first mark and passes on to the rest, it gives `Is` for each mark of the
+-- list
 each-at : (Says : List Mark → Type 0) (Is : Mark → Type 0) → ((x : Mark) (xs : List Mark) → Says (x ∷ xs) → Is x × Says xs)
     → (xs : List Mark) (q : Mark) → Says xs → Has xs q → Is q
 each-at Says Is parts [] q says has = absurd has
@@ -66,7 +67,7 @@ list_any-found p (x ∷ xs) some = elim (or_cases (p x) (list_any p xs) some) [
     next : ((q : Mark) × Has xs q × (p q ≡ true)) → (q : Mark) × Has (x ∷ xs) q × (p q ≡ true)
     next h = (h.0, inr h.1, h.2)
 
--- The same by place.
+-- Membership by index.
 
 pub Has-from_contains : (xs : List Mark) (q : Mark) → Contains xs q → Has xs q
 Has-from_contains [] q (k, k_in, at) = absurd (omega arith)
@@ -96,7 +97,7 @@ has-All P xs q all has =
     let at : (k : ℕ) × (k < length xs) × (get_or xs k q ≡ q) = Contains-from_has xs q has in
     subst P at.2 (all at.0 q at.1)
 
--- each mark of either list is one of the other
+-- the two lists have the same members
 pub record HaveSame (xs ys : List Mark) : Type 0 where
   pub to : (q : Mark) → Has xs q → Has ys q
   pub from : (q : Mark) → Has ys q → Has xs q
@@ -118,7 +119,7 @@ same_head x y xs ys ordered_xs ordered_ys same = elim (same.to x (inl refl)) [
   ]
 ]
 
--- there is one list in order of the same marks
+-- two lists in order with the same members are equal
 pub IsInOrder-unique : (xs ys : List Mark) → IsInOrder xs → IsInOrder ys → HaveSame xs ys → xs ≡ ys
 IsInOrder-unique [] [] ordered_xs ordered_ys same = refl
 IsInOrder-unique [] (y ∷ ys) ordered_xs ordered_ys same = absurd (same.from y (inl refl))

@@ -1,4 +1,4 @@
--- What holds of both texts of a recast.
+-- Properties of both texts of a recast.
 use Rattle.std.proofs.Common.{◌≡◌, ◌≤◌, ◌<◌, ℕ, List, length, sym, subst, arith}
 use Rattle.decoration_rules.specs.declared.LineMove.{LineMove}
 use Rattle.decoration_rules.specs.Moves.{offset_limit}
@@ -11,7 +11,7 @@ use Rattle.decoration_rules.specs.Recasts.{SideState, AreSides}
 use Rattle.decoration_rules.proofs.Contents.{contents-normalized}
 use Rattle.decoration_rules.proofs.LineMoves.{are_line_moves}
 
--- a text is far shorter than an offset may be
+-- line moves between texts fit, since the maximum length of a text is far below the offset limit
 are_moves_of_text : (x y : List ℕ) (moves : List LineMove) → HaveSameContents x y → length y ≤ MOST_TEXT_UNITS → moves ≡ line_moves x y → AreLineMoves moves
 are_moves_of_text x y moves same fits is =
     let short : length y < offset_limit = omega (arith, fits) in

@@ -23,7 +23,7 @@ edit start end units = record { start = start; end = end; units = units; force =
 abbrev forced : ℕ → ℕ → ℕ → Edit
 forced start end units = record (edit start end units) { force = true }
 
--- where [2, 5] stands after the edit, by its stickiness
+-- the span [2, 5] after the edit, for each stickiness
 abbrev all_modes : Edit → List Span
 all_modes e = map (λ sticky. moved (span 2 5) sticky false e) (AlwaysGrows ∷ NeverGrows ∷ GrowsBefore ∷ GrowsAfter ∷ [])
 
@@ -48,7 +48,7 @@ put_back = refl
 fewer_in_its_place : all_modes (edit 1 6 3) ≡ span 2 4 ∷ span 2 4 ∷ span 2 4 ∷ span 2 4 ∷ []
 fewer_in_its_place = refl
 
--- where a growing decoration stands after each of the edits
+-- the span of a growing decoration after each of the edits
 abbrev grown : Bool → Span → List Edit → List Span
 grown collapse at edits = map (moved at AlwaysGrows collapse) edits
 
@@ -56,7 +56,7 @@ grown collapse at edits = map (moved at AlwaysGrows collapse) edits
 just_as_many_in_its_place : grown false (span 2 5) (edit 2 5 3 ∷ forced 2 5 3 ∷ []) ≡ span 2 5 ∷ span 5 5 ∷ []
 just_as_many_in_its_place = refl
 
--- where all of it is taken, and where something is left
+-- the first edit takes the whole span, the second leaves a part of it
 collapsed : grown true (span 2 5) (edit 1 6 3 ∷ edit 3 6 0 ∷ []) ≡ span 1 1 ∷ span 2 3 ∷ []
 collapsed = refl
 
@@ -66,7 +66,7 @@ collapsed_at_an_insert = refl
 an_empty_one_grows : grown false (span 1 1) (edit 1 1 1 ∷ forced 1 1 1 ∷ []) ≡ span 1 2 ∷ span 2 2 ∷ []
 an_empty_one_grows = refl
 
--- its start would pass its end
+-- without the correction its start would pass its end
 an_empty_one_never_grows : moved (span 1 1) NeverGrows false (edit 1 1 1) ≡ span 2 2
 an_empty_one_never_grows = refl
 
@@ -78,7 +78,7 @@ a_batch_from_its_last_op : carried (mark 1 2 4 NeverGrows ∷ mark 2 3 3 NeverGr
     ≡ mark 1 4 6 NeverGrows ∷ mark 2 5 5 NeverGrows ∷ []
 a_batch_from_its_last_op = refl
 
--- what stood first stands last
+-- the first decoration becomes the last
 an_insert_that_turns_the_order : carried (mark 1 2 2 NeverGrows ∷ mark 2 2 4 AlwaysGrows ∷ []) (edit 2 2 1 ∷ [])
     ≡ mark 2 2 5 AlwaysGrows ∷ mark 1 3 3 NeverGrows ∷ []
 an_insert_that_turns_the_order = refl
@@ -90,11 +90,11 @@ line old content new = record { old = old; content = content; new = new }
 abbrev longer_endings : List LineMove
 longer_endings = line 0 1 0 ∷ line 2 1 3 ∷ line 4 1 6 ∷ []
 
--- and the other way round
+-- the opposite change
 abbrev shorter_endings : List LineMove
 shorter_endings = line 0 1 0 ∷ line 3 1 2 ∷ line 6 1 4 ∷ []
 
--- the whole text, and the b
+-- the whole text, and the `b`
 lines_move_behind_longer_endings : carried_with_lines longer_endings (mark 1 0 5 AlwaysGrows ∷ mark 2 2 3 AlwaysGrows ∷ [])
     ≡ mark 1 0 7 AlwaysGrows ∷ mark 2 3 4 AlwaysGrows ∷ []
 lines_move_behind_longer_endings = refl
@@ -103,7 +103,7 @@ and_back_before_shorter_ones : carried_with_lines shorter_endings (mark 1 0 7 Al
     ≡ mark 1 0 5 AlwaysGrows ∷ mark 2 2 3 AlwaysGrows ∷ []
 and_back_before_shorter_ones = refl
 
--- the one between the CR and the LF falls onto the one before the CR, and stands before it by its id
+-- the offset between the CR and the LF moves to the offset before the CR; the decorations are then ordered by id
 inside_an_ending : carried_with_lines shorter_endings (mark 2 1 1 NeverGrows ∷ mark 1 2 2 NeverGrows ∷ [])
     ≡ mark 1 1 1 NeverGrows ∷ mark 2 1 1 NeverGrows ∷ []
 inside_an_ending = refl

@@ -23,7 +23,7 @@ moves_to_pairs = refl
 moves_back : line_moves (normalized Crlf mixed_text) mixed_text ≡ map turned (line 0 1 0 ∷ line 3 1 3 ∷ line 5 1 6 ∷ [])
 moves_back = refl
 
--- a text with no unit has one line
+-- the empty text has one line
 moves_of_no_text : line_moves [] [] ≡ line 0 0 0 ∷ []
 moves_of_no_text = refl
 
@@ -31,6 +31,6 @@ moves_of_no_text = refl
 moves_behind_a_break : line_moves (codes "\n") (codes "\r\n") ≡ line 0 0 0 ∷ line 1 0 2 ∷ []
 moves_behind_a_break = refl
 
--- before the CR, between CR and LF, behind the LF, and at the end
+-- an offset before the CR, between CR and LF, after the LF, and at the end
 places_that_are_carried : map (carried_place (line_moves mixed_text (normalized Lf mixed_text))) (1 ∷ 2 ∷ 3 ∷ 6 ∷ []) ≡ 1 ∷ 1 ∷ 2 ∷ 5 ∷ []
 places_that_are_carried = refl

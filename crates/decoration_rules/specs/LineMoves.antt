@@ -1,10 +1,10 @@
--- Two texts whose lines have the same contents, and how each line moves from the one text to the other.
+-- Two texts whose lines have the same contents, and how each line moves from one text to the other.
 use Rattle.std.specs.Prelude.{ℕ, ◌≡◌, ◌+◌, List, [], ◌∷◌, length, map}
 use Rattle.decoration_rules.specs.declared.LineMove.{LineMove}
 use Rattle.text_rules.specs.Lines.{Line, lines_of, line_length}
 
--- how lines move where each keeps its content: where each starts in the one text, how many units its content has, and where it starts in
--- the other
+-- the moves of lines that keep their contents: the start of each line in the first text, the length of its content, and
+-- its start in the second text; the first lines start at `old` and `new`
 abbrev pub moves_from : ℕ → ℕ → List Line → List Line → List LineMove
 moves_from old new [] after = []
 moves_from old new (line ∷ before) [] = []
@@ -12,14 +12,14 @@ moves_from old new (line ∷ before) (next ∷ after) =
     record { old = old; content = length line.content; new = new }
     ∷ moves_from (old + line_length line) (new + line_length next) before after
 
--- from one text to another
+-- the line moves from the first text to the second
 abbrev pub line_moves : List ℕ → List ℕ → List LineMove
 line_moves x y = moves_from 0 0 (lines_of x) (lines_of y)
 
--- the lines of the texts have the same contents
+-- the lines of the two texts have the same contents
 abbrev pub HaveSameContents : List ℕ → List ℕ → Type 0
 HaveSameContents x y = map (λ line. line.content) (lines_of x) ≡ map (λ line. line.content) (lines_of y)
 
--- the same line on its way back
+-- the move in the opposite direction
 abbrev pub turned : LineMove → LineMove
 turned line = record { old = line.new; content = line.content; new = line.old }

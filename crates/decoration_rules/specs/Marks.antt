@@ -1,4 +1,4 @@
--- Lists of decorations, which stand by start, then by end, then by id.
+-- Lists of decorations, ordered by start, then by end, then by id.
 use Rattle.std.specs.Prelude.{ℕ, ◌≡◌, ◌==◌, ◌&&◌, ◌||◌, Bool, true, false, not, nat_lt, nat_le, if◌then◌else◌, List, [], ◌∷◌, map, filter, find, Option, ⊤}
 use Rattle.std.specs.List.{list_any, list_all}
 use Rattle.text_lengths.specs.declared.Span.{Span}
@@ -19,11 +19,11 @@ abbrev pub in_order : List Mark → List Mark
 in_order [] = []
 in_order (mark ∷ marks) = put_in_order mark (in_order marks)
 
--- each is moved by the edits of a batch, from the last to the first
+-- the decorations after all edits of a batch, which are applied from the last to the first
 abbrev pub carried : List Mark → List Edit → List Mark
 carried marks edits = in_order (map (moved_by_all edits) marks)
 
--- each stands before those after it
+-- the list is in order: each decoration is before all later ones
 abbrev pub IsInOrder : List Mark → Type 0
 IsInOrder [] = ⊤
 IsInOrder (mark ∷ marks) = (list_all (stands_before mark) marks ≡ true) × IsInOrder marks
@@ -37,12 +37,12 @@ is_live marks id = list_any (has_id id) marks
 abbrev pub mark_of : List Mark → ℕ → Option Mark
 mark_of marks id = find (has_id id) marks
 
--- no two have the same id
+-- no two decorations have the same id
 abbrev pub HasDistinctIds : List Mark → Type 0
 HasDistinctIds [] = ⊤
 HasDistinctIds (mark ∷ marks) = (is_live marks mark.id ≡ false) × HasDistinctIds marks
 
--- those without this id
+-- the decorations whose id is not this one
 abbrev pub without : ℕ → List Mark → List Mark
 without id marks = filter (λ mark. not (has_id id mark)) marks
 
@@ -50,6 +50,6 @@ without id marks = filter (λ mark. not (has_id id mark)) marks
 abbrev pub touches : Span → Mark → Bool
 touches span mark = nat_le mark.span.start span.end && nat_le span.start mark.span.end
 
--- those that touch the span
+-- the decorations that touch the span
 abbrev pub touching : Span → List Mark → List Mark
 touching span marks = filter (touches span) marks

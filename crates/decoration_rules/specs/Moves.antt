@@ -7,11 +7,11 @@ use Rattle.decoration_rules.specs.declared.Sticky.TheVariants.{AlwaysGrows, Neve
 use Rattle.decoration_rules.specs.declared.Edit.{Edit}
 use Rattle.decoration_rules.specs.declared.Mark.{Mark}
 
--- every offset of a decoration is below it
+-- all offsets of a decoration are below this limit
 abbrev pub offset_limit : ℕ
 offset_limit = 2 ^ 62
 
--- Whether a decoration's start, or its end, sticks to the text before it.
+-- The stick flags: whether a decoration's start, or its end, sticks to the text before it.
 abbrev pub start_sticks : Sticky → Bool
 start_sticks AlwaysGrows = true
 start_sticks NeverGrows = false
@@ -24,10 +24,10 @@ end_sticks NeverGrows = true
 end_sticks GrowsBefore = true
 end_sticks GrowsAfter = false
 
--- What an offset does that stands right at a place.
+-- The behaviour of an offset that is equal to an offset of the edit.
 pub data AtPlace : Type 0 where
   stay : AtPlace
-  -- it stays where its stick flag is set
+  -- the offset stays if its stick flag is set
   own : AtPlace
   move : AtPlace
 
@@ -36,19 +36,19 @@ stays_at stay sticks = true
 stays_at own sticks = sticks
 stays_at move sticks = false
 
--- the offset stands before the place, or stands right there and stays
+-- the offset is less than `place`, or equal to it and stays
 abbrev pub stays_before : AtPlace → Bool → ℕ → ℕ → Bool
 stays_before rule sticks offset place = nat_lt offset place || (offset == place && stays_at rule sticks)
 
--- how many units the edit removes
+-- the number of units that the edit removes
 abbrev pub removed : Edit → ℕ
 removed edit = edit.end - edit.start
 
--- how many of the removed units have a new one in their place
+-- the number of removed units that a new unit replaces
 abbrev pub replaced : Edit → ℕ
 replaced edit = min (removed edit) edit.units
 
--- The rules at the edit's start, at the end of what is replaced, and at the edit's end.
+-- The rules at the edit's start, at the end of the replaced units, and at the edit's end.
 abbrev pub at_start : Edit → AtPlace
 at_start edit = if edit.force then move else (if nat_lt edit.start edit.end then stay else own)
 
@@ -58,7 +58,7 @@ at_replaced edit = if nat_lt edit.units (removed edit) then stay else own
 abbrev pub at_end : Edit → AtPlace
 at_end edit = if edit.force then move else own
 
--- where an offset with this stick flag stands after the edit
+-- the offset after the edit of an offset with this stick flag
 abbrev pub moved_offset : Bool → ℕ → Edit → ℕ
 moved_offset sticks offset edit =
     if stays_before (at_start edit) sticks offset edit.start then offset else
@@ -67,15 +67,15 @@ moved_offset sticks offset edit =
     (if stays_before (at_end edit) sticks offset edit.end then edit.start + edit.units
     else offset + edit.units - removed edit))
 
--- the span lies within the units that the edit removes, or is empty right where it inserts
+-- the span is within the edit's range, bounds included; an empty span at the offset of an insertion is too
 abbrev pub is_taken : Span → Edit → Bool
 is_taken span edit = nat_le edit.start span.start && nat_le span.end edit.end
 
--- an end below its start becomes the start
+-- the span from `start` to `end`; an end below the start becomes the start
 abbrev pub upright : ℕ → ℕ → Span
 upright start end = record { start = start; end = max start end }
 
--- where a decoration stands after the edit
+-- the span of a decoration after the edit
 abbrev pub moved : Span → Sticky → Bool → Edit → Span
 moved span sticky collapse edit =
     if collapse && is_taken span edit then record { start = edit.start; end = edit.start } else
@@ -84,7 +84,7 @@ moved span sticky collapse edit =
 abbrev pub moved_mark : Edit → Mark → Mark
 moved_mark edit mark = record mark { span = moved mark.span mark.sticky mark.collapse edit }
 
--- the span lies in a text of this length
+-- the span is ordered and within a text of this length
 pub record IsSpanIn (span : Span) (len : ℕ) : Type 0 where
   pub upright : span.start ≤ span.end
   pub within : span.end ≤ len
@@ -92,7 +92,7 @@ pub record IsSpanIn (span : Span) (len : ℕ) : Type 0 where
 abbrev pub LieIn : ℕ → List Mark → Type 0
 LieIn len marks = All (λ (mark : Mark). IsSpanIn mark.span len) marks
 
--- by the edits of a batch, from the last to the first
+-- the decoration after all edits of a batch, which are applied from the last to the first
 abbrev pub moved_by_all : List Edit → Mark → Mark
 moved_by_all [] mark = mark
 moved_by_all (edit ∷ edits) mark = moved_mark edit (moved_by_all edits mark)

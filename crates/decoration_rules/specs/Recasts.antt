@@ -1,4 +1,4 @@
--- A text beside the same text with other line endings.
+-- A text together with the same text with other line endings.
 use Rattle.std.specs.Prelude.{ℕ, ◌≡◌, ◌≤◌, List, length}
 use Rattle.unit_text.specs.declared.kind.Kind.{Kind}
 use Rattle.unit_text.specs.Kinds.{normalized, IsOfKind}
@@ -6,14 +6,14 @@ use Rattle.text_rules.specs.declared.TheConstants.{MOST_TEXT_UNITS}
 use Rattle.decoration_rules.specs.declared.LineMove.{LineMove}
 use Rattle.decoration_rules.specs.LineMoves.{line_moves}
 
--- the text as it was and the text as it is, each with the kind of its line endings
+-- the text before and after the change, each with the kind of its line endings
 pub record RecastState : Type 0 where
   pub before : List ℕ
   pub from : Kind
   pub after : List ℕ
   pub to : Kind
 
--- one of the two texts, with the kind of its line endings and how the lines move to it from the other
+-- one of the two texts, with the kind of its line endings and the line moves from the other text to it
 pub record SideState : Type 0 where
   pub units : List ℕ
   pub kind : Kind
@@ -22,7 +22,7 @@ pub record SideState : Type 0 where
 abbrev pub recast_of : SideState → SideState → RecastState
 recast_of before after = record { before = before.units; from = before.kind; after = after.units; to = after.kind }
 
--- the second is what the first becomes where its line endings become those of the second's kind
+-- the second text is the first one with its line endings replaced by those of the second's kind
 pub record AreSides (before after : SideState) : Type 0 where
   pub endings : IsOfKind before.kind before.units
   pub same : after.units ≡ normalized after.kind before.units

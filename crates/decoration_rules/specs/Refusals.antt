@@ -1,8 +1,8 @@
--- Why the rule of a change of decorations refuses it. Want of memory is no such reason: the rule takes none.
+-- The reasons why the rule refuses a change of decorations. Lack of memory is not among them: the rule needs none.
 pub data DecoRefusal : Type 0 where
-  -- a named decoration is not live, has another owner, or is named twice
+  -- a given id is not live, belongs to another owner, or is given twice
   unknown : DecoRefusal
-  -- a span is not one of the text, or there is no such mode
+  -- a span is invalid for the text, or a mode is invalid
   range : DecoRefusal
-  -- there would be too many decorations, or no id for a new one
+  -- there would be too many decorations, or no id is left for a new one
   limit : DecoRefusal

@@ -1,5 +1,5 @@
-//! What a decoration is, how it moves under an edit, and what a set of decorations answers: the definitions that
-//! contracts cite, and the plain types that they are about.
+//! Definitions of decorations, of how an edit moves them and of the answers to queries, which contracts cite, and the
+//! plain types that they use.
 #![tactic(auto)]
 
 ghost use Rattle.std.specs.Prelude.{◌≡◌};
@@ -8,25 +8,25 @@ ghost use Rattle.decoration_rules.specs.Decorations.{sticky_of, mode_of, deco_of
 use text_lengths::Span;
 use thiserror::Error;
 
-/// The most decorations that are live at once.
+/// The maximum number of live decorations.
 pub const MOST_DECORATIONS: u64 = 1 << 20;
 
-/// The greatest mode that a [`Sticky`] has.
+/// The largest mode number of a [`Sticky`].
 pub const GREATEST_MODE: u64 = 3;
 
-/// What a decoration does when text is typed right at its edges.
+/// How a decoration grows when text is inserted exactly at its start or its end.
 #[derive(Clone, Copy, PartialEq, Eq, Debug)]
 pub enum Sticky {
     AlwaysGrows,
     NeverGrows,
-    /// It grows by what is typed before it only.
+    /// Grows by text inserted at its start, not by text inserted at its end.
     GrowsBefore,
-    /// It grows by what is typed after it only.
+    /// Grows by text inserted at its end, not by text inserted at its start.
     GrowsAfter,
 }
 
 impl Sticky {
-    /// The stickiness of this mode; None where there is no such mode.
+    /// Returns the stickiness with this mode number; None if `mode` is above [`GREATEST_MODE`].
     pub fn of_mode(mode: u64) -> Option<Sticky>
         ensures { result ≡ sticky_of mode }
     {
@@ -39,7 +39,7 @@ impl Sticky {
         }
     }
 
-    /// The number of the mode.
+    /// Returns the mode number, from 0 to [`GREATEST_MODE`].
     pub fn mode(self) -> u64
         ensures { result ≡ mode_of self }
     {
@@ -52,24 +52,26 @@ impl Sticky {
     }
 }
 
-/// An edit as a decoration sees it: `units` units take the place of those from offset `start` up to offset `end`.
+/// An edit without its text: `units` units replace the units from offset `start` up to offset `end`.
 #[derive(Clone, Copy, PartialEq, Eq, Debug)]
 pub struct Edit {
     pub start: u64,
     pub end: u64,
     pub units: u64,
-    /// Whether what stands at the edit's place moves to its end, whatever its stickiness.
+    /// Whether decoration bounds from `start` to `end`, both included, move to the end of the new text, whatever their
+    /// stickiness. A decoration with `collapse` whose whole span is in that range still moves to `start`.
     pub force: bool,
 }
 
-/// A line that keeps its content and starts elsewhere, as where the line endings of a text change their kind.
+/// A line whose content is unchanged and whose start offset changes, for example when the line endings of a text change
+/// their kind.
 #[derive(Clone, Copy, PartialEq, Eq, Debug)]
 pub struct LineMove {
-    /// Where the line started.
+    /// The start offset of the line before the change.
     pub old: u64,
-    /// How many units it has, without its line ending.
+    /// The number of units of the line without its line ending.
     pub content: u64,
-    /// Where it starts now.
+    /// The start offset of the line after the change.
     pub new: u64,
 }
 
@@ -80,12 +82,12 @@ pub struct Mark {
     pub owner: u64,
     pub span: Span,
     pub sticky: Sticky,
-    /// Whether an edit that takes its whole span leaves it empty at the edit's start.
+    /// Whether an edit whose span contains the decoration's span leaves it empty at the edit's start.
     pub collapse: bool,
 }
 
 impl Mark {
-    /// The decoration with its mode as a number.
+    /// Returns the decoration in the form of query results, with its mode as a number.
     pub fn deco(&self) -> Deco
         ensures { result ≡ deco_of self.now }
     {
@@ -99,7 +101,7 @@ impl Mark {
     }
 }
 
-/// A decoration that is to be added. Its mode is a number from 0 to 3.
+/// A decoration to add. `stick` is its mode, a number from 0 to 3.
 #[derive(Clone, Copy, PartialEq, Eq, Debug)]
 pub struct NewDeco {
     pub span: Span,
@@ -107,7 +109,7 @@ pub struct NewDeco {
     pub collapse: bool,
 }
 
-/// A live decoration as queries answer it.
+/// A live decoration in the form of query results. `stick` is its mode, a number from 0 to 3.
 #[derive(Clone, Copy, PartialEq, Eq, Debug)]
 pub struct Deco {
     pub id: u64,
@@ -117,19 +119,19 @@ pub struct Deco {
     pub collapse: bool,
 }
 
-/// Why decorations were not changed.
+/// The reason why a change of decorations failed.
 #[derive(Clone, Copy, PartialEq, Eq, Debug, Error)]
 pub enum DecoError {
-    /// A named decoration is not live, has another owner, or is named twice.
+    /// A given id is not live, belongs to another owner, or is given twice.
     #[error("a named decoration is not live, has another owner, or is named twice")]
     Unknown,
-    /// A span is not one of the text, or a mode is above 3.
+    /// A span is invalid for the text, or a mode is above 3.
     #[error("a span is not one of the text, or there is no such mode")]
     Range,
-    /// There would be too many decorations, or no id for a new one.
+    /// There would be more than [`MOST_DECORATIONS`] decorations, or no id is left for a new one.
     #[error("a limit would be passed")]
     Limit,
-    /// There was no memory for the call.
+    /// Out of memory.
     #[error("out of memory")]
     Memory,
 }

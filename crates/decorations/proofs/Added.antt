@@ -1,4 +1,4 @@
--- What new decorations leave, put in one after another.
+-- The set after new decorations are inserted one after another.
 use Rattle.std.proofs.Common.{◌≡◌, ℕ, ◌+◌, ◌<◌, ◌≤◌, suc, false, List, [], ◌∷◌, ◌++◌, length, take, get_or, refl, sym, ◌∙◌, ap, subst, arith}
 use Rattle.std.specs.List.{All}
 use Rattle.std.proofs.lemmas.Bool.{ne_eqb}
@@ -11,7 +11,7 @@ use Rattle.decoration_rules.specs.Decorations.{new_mark, new_marks}
 use Rattle.decoration_rules.proofs.OrderLemmas.{has-All, list_any-none}
 use Rattle.decoration_rules.proofs.MarkLists.{HaveSame-in_order, is_live-same, distinct_append, in_order-append}
 
--- what a read past the end would give
+-- the default of a read past the end
 abbrev pub any_new : NewDeco
 any_new = record { span = record { start = 0; end = 0 }; stick = 0; collapse = false }
 
@@ -50,7 +50,7 @@ pub length-new_marks : (owner first : ℕ) (add : List NewDeco) → length (new_
 length-new_marks owner first [] = refl
 length-new_marks owner first (new ∷ more) = ap suc (length-new_marks owner (first + 1) more)
 
--- those that are in after `i` of the new ones
+-- the decorations after the first `i` new ones are inserted
 abbrev pub so_far : ℕ → ℕ → List NewDeco → List Mark → ℕ → List Mark
 so_far owner first add marks i = marks ++ new_marks owner first (take i add)
 

@@ -62,7 +62,7 @@ module _ (d : Decorations) (owner : ℕ) (ids : List ℕ) (add : List NewDeco) (
       ∙ cond-false (is_too_much d ids (length add)) (Err limit) (Ok made) few in
       subst IsOk (sym is) refl
 
--- as many go as are named
+-- the number of removed decorations is the number of named ids
 pub length-kept_owned : (marks : List Mark) (owner : ℕ) (ids : List ℕ) → HasDistinctIds marks → list_all (owns marks owner) ids ≡ true → has_repeat ids ≡ false
     → length (kept marks ids) + length ids ≡ length marks
 length-kept_owned marks owner ids distinct owned once = length-kept ids marks distinct (all_live-owned marks owner ids owned) once

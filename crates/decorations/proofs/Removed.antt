@@ -1,4 +1,4 @@
--- What is kept where some decorations are taken out, one after another.
+-- The decorations that stay when some are removed, one after another.
 use Rattle.std.proofs.Common.{◌≡◌, ℕ, ◌+◌, Bool, true, false, not, ◌||◌, ◌&&◌, cond, eqb, inl, inr, List, [], ◌∷◌, length, refl, sym, ◌∙◌, ap, subst, arith}
 use Rattle.std.specs.List.{list_any, list_all}
 use Rattle.std.proofs.lemmas.Bool.{cond-true, cond-false, or_parts, or_cases, and_parts, and_from, eqb-true, cases_Bool, both_ways}
@@ -66,7 +66,7 @@ length-kept (id ∷ ids) marks distinct live single =
     let rest = length-kept ids (without id marks) (distinct_filter (λ mark. not (has_id id mark)) marks distinct) (all_live-without id ids marks apart.0 here.1) apart.1 in
     omega (arith, ap length (kept-first id ids marks), rest, length-without id marks distinct here.0)
 
--- what is left to take out
+-- the ids that are still to be removed
 pub record AreLeft (marks : List Mark) (ids : List ℕ) : Type 0 where
   pub live : list_all (is_live marks) ids ≡ true
   pub once : has_repeat ids ≡ false
@@ -79,7 +79,7 @@ AreLeft-rest id ids marks left =
       once = apart.1;
     }
 
--- Whom an owner may name.
+-- The ids that an owner may name.
 
 owns-live : (marks : List Mark) (owner id : ℕ) → owns marks owner id ≡ true → is_live marks id ≡ true
 owns-live marks owner id owned = elim (cases_Bool (is_live marks id)) [

@@ -14,7 +14,7 @@ same n other = eqb other n
 abbrev names : ℕ → List ℕ → Bool
 names n xs = list_any (same n) xs
 
--- It is so where some number is counted more than once.
+-- A list has a repeat if some number is counted more than once.
 
 times-single : (n : ℕ) (xs : List ℕ) → has_repeat xs ≡ false → times same n xs ≤ 1
 times-single n [] single = omega arith
@@ -74,7 +74,7 @@ rising_far : (xs : List ℕ) → IsNonDecreasing xs → ((k d : ℕ) → k + 1 <
     → (i j d : ℕ) → i < j → j < length xs → get_or xs i d < get_or xs j d
 rising_far xs sorted next i j d below j_in = omega (arith, next i d (omega arith), sorted (i + 1) j d (omega arith) j_in)
 
--- of numbers in order one comes twice where one is not below the next
+-- in a sorted list a number comes twice if one is not below the next
 pub has_repeat-sorted : (xs ys : List ℕ) (rises : Bool) → IsPermutation xs ys → IsNonDecreasing ys → IsAllAdjacentAnswer (λ x y b. b ≡ ltb x y) ys rises
     → not rises ≡ has_repeat xs
 has_repeat-sorted xs ys true moved sorted all =

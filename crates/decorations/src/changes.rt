@@ -1,4 +1,4 @@
-//! The steps of a change.
+//! The checks and the steps of a change.
 
 ghost use Rattle.std.specs.Prelude.{◌≡◌, ◌+◌, ◌-◌, ◌^◌, ◌<◌, ◌≤◌, ◌||◌, ◌++◌, ◌⊎◌, false, true, nat_lt, length, IfOk, IfErr, OnOk};
 ghost use Rattle.std.specs.List.{All, list_any, list_all};
@@ -14,7 +14,7 @@ use std::alloc::{AllocError, Global};
 use text_lengths::GREATEST_NUMBER;
 use unit_text::Flat;
 
-/// Whether each of the ids is live and has this owner.
+/// Returns whether each of the ids is live and has this owner.
 pub(crate) fn owns_all(tree: &IntervalTree, owner: u64, ids: &[u64]) -> bool
     ensures { result ≡ list_all (λ id. owns tree.now.marks owner id) ids.now }
 {
@@ -30,7 +30,7 @@ fn owns(tree: &IntervalTree, owner: u64, id: u64) -> bool
     }
 }
 
-/// Refuses ids of which one is named twice.
+/// Fails with `Unknown` if an id occurs twice, and with `Memory` if memory is short.
 pub(crate) fn named_once(alloc: Global, ids: &[u64]) -> Result<(), DecoError>
     ensures ok { OnOk result (has_repeat ids.now ≡ false) }
     ensures err { IfErr result
@@ -43,7 +43,7 @@ pub(crate) fn named_once(alloc: Global, ids: &[u64]) -> Result<(), DecoError>
     }
 }
 
-/// Whether an id is named twice.
+/// Returns whether an id occurs twice.
 fn has_repeat(alloc: Global, ids: &[u64]) -> Result<bool, AllocError>
     ensures { IfOk result (λ answer. answer ≡ has_repeat ids.now) }
 {
@@ -52,7 +52,7 @@ fn has_repeat(alloc: Global, ids: &[u64]) -> Result<bool, AllocError>
     Ok(!sorted.is_sorted_by(|a, b| a < b))
 }
 
-/// Whether one of the new decorations has a span that is none of the text, or a mode that there is not.
+/// Returns whether one of the new decorations has a span that is invalid in the text, or an invalid mode.
 pub(crate) fn any_is_bad<F: Flat>(add: &[NewDeco], text: &F) -> bool
     ensures { result ≡ list_any (is_bad (F.kind text.now) (F.units text.now)) add.now }
 {
@@ -67,7 +67,7 @@ fn is_bad<F: Flat>(new: &NewDeco, text: &F) -> bool
         || new.stick > GREATEST_MODE
 }
 
-/// Whether there would be too many decorations, or an id would pass the greatest.
+/// Returns whether there would be too many decorations, or an id would exceed the greatest.
 pub(crate) fn is_too_much(live: u64, removed: u64, added: u64, next_id: u64) -> bool
     requires removed { removed ≤ live }
     requires live { live ≤ most_decorations }
@@ -81,7 +81,7 @@ pub(crate) fn is_too_much(live: u64, removed: u64, added: u64, next_id: u64) -> 
     next_id + added - 1 > GREATEST_NUMBER
 }
 
-/// Takes out the decorations of these ids.
+/// Removes the decorations of these ids.
 pub(crate) fn remove_all(tree: &mut IntervalTree, ids: &[u64])
     requires live { list_all (is_live tree.old.marks) ids.now ≡ true }
     requires once { has_repeat ids.now ≡ false }
@@ -93,7 +93,7 @@ pub(crate) fn remove_all(tree: &mut IntervalTree, ids: &[u64])
     }
 }
 
-/// Puts the new decorations in, with ids that rise from the first.
+/// Inserts the new decorations, with consecutive ids from `first` on.
 pub(crate) fn add_all(tree: &mut IntervalTree, owner: u64, first: u64, add: &[NewDeco])
     requires room { length add.now ≤ tree.old.spare }
     requires ids { first + length add.now < 2 ^ 64 }

@@ -1,4 +1,4 @@
-//! The decorations of a document: who owns them, their ids, and which text they stand at.
+//! The decorations of a document: their owners, their ids, and their spans in the text.
 #![tactic(auto)]
 
 mod changes;

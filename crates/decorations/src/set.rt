@@ -1,4 +1,4 @@
-//! The set.
+//! The set of decorations.
 
 ghost use Rattle.std.specs.Prelude.{◌≡◌, ◌≤◌, ◌<◌, ◌^◌, ◌++◌, length, map, take, vec_len, IsOk, OnOk, OnErr, IfErr};
 ghost use Rattle.std.specs.List.{All, filter};
@@ -15,12 +15,12 @@ use std::marker::Model;
 use text_lengths::Span;
 use unit_text::Flat;
 
-/// The live decorations of a document, by start, then by end, then by id. `accept`, `carry` and `get` take no memory.
+/// The live decorations of a document, sorted by start, then by end, then by id. `accept`, `carry` and `get` allocate nothing.
 #[derive(Drop)]
 pub struct DecoSet {
     alloc: Global,
     tree: IntervalTree,
-    /// Ids count from 1, and none is used again.
+    /// The next id. Ids count from 1, and none is used again.
     next_id: u64,
 }
 
@@ -46,8 +46,8 @@ impl DecoSet {
         }
     }
 
-    /// Takes decorations of an owner out and puts new ones in, all of it or none. Answers the first new id, or the next
-    /// free one where nothing is added.
+    /// Removes decorations of an owner and adds new ones: all or nothing. Returns the first new id, or the next free one if nothing is
+    /// added.
     pub fn delta<F: Flat>(
         &mut self,
         owner: u64,
@@ -71,7 +71,7 @@ impl DecoSet {
         Ok(first)
     }
 
-    /// The refusals of a change, in their order.
+    /// Checks a change, and fails with the first reason to refuse it.
     fn check<F: Flat>(
         &self,
         owner: u64,
@@ -101,8 +101,7 @@ impl DecoSet {
         Ok(())
     }
 
-    /// Appends the decorations that share a unit with the span, or touch it: all of them, or those of one owner. After
-    /// an error `out` is as it was.
+    /// Appends the decorations that overlap the span or touch it: all of them, or those of one owner. On an error `out` is unchanged.
     pub fn in_range(
         &self,
         span: Span,
@@ -122,14 +121,14 @@ impl DecoSet {
         pushed
     }
 
-    /// The live decoration of this id.
+    /// Returns the live decoration of this id; None if there is none.
     pub fn get(&self, id: u64) -> Option<Deco>
         ensures { result ≡ deco_at self.now id }
     {
         self.tree.place(id).map(|mark| mark.deco())
     }
 
-    /// Each decoration moves, as the text under it is edited.
+    /// Moves each decoration along with an edit of the text.
     pub fn accept(&mut self, edit: &Edit)
         requires upright { edit.now.start ≤ edit.now.end }
         requires fits { All (λ mark. (moved_mark edit.now mark).span.end < offset_limit)
@@ -143,7 +142,7 @@ impl DecoSet {
         self.tree.accept(edit);
     }
 
-    /// Each decoration goes with its lines, as where the line endings of the text change their kind.
+    /// Moves each decoration with its lines, for a change of the kind of line endings.
     pub fn carry(&mut self, moves: &[LineMove])
         requires { AreLineMoves moves.now }
         ensures carried { self.new ≡ record self.old {
@@ -155,7 +154,7 @@ impl DecoSet {
     }
 }
 
-// After an error some of them stand behind what was there.
+// Appends those of the decorations that have the owner, or all for None. On an error `out` may keep some of them.
 fn push_owned(marks: &[Mark], owner: Option<u64>, out: &mut Vec<Deco>) -> Result<(), AllocError>
     ensures ok { OnOk result (out.new.items
         ≡ out.old.items ++ map deco_of (filter (is_of owner) marks.now)) }
@@ -169,7 +168,7 @@ fn push_owned(marks: &[Mark], owner: Option<u64>, out: &mut Vec<Deco>) -> Result
     Ok(())
 }
 
-/// Whether the decoration has this owner, where one is asked for.
+/// Returns whether the decoration has this owner; true for None.
 fn is_of(owner: Option<u64>, mark: &Mark) -> bool
     ensures { result ≡ is_of owner mark.now }
 {

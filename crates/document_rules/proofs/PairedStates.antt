@@ -1,4 +1,4 @@
--- No call brings a lone surrogate into a document that has none, where the texts that it is given have none.
+-- No call brings a lone surrogate into a document that has none, if the texts passed to it have none.
 use Rattle.std.proofs.Common.{◌≡◌, ℕ, ◌+◌, ◌<◌, ◌&&◌, ◌||◌, not, map, take, drop, reverse, filter, find, option_map, arith, Bool, true, false, nat_lt, nat_le, if◌then◌else◌, List, [], ◌∷◌, ◌++◌, length, Option, Some, None, IfSome, Result, Ok, Err, refl, ap, sym, subst}
 use Rattle.std.specs.Prelude.{⊤, All}
 use Rattle.std.proofs.lemmas.Bool.{eqb-true, ne_eqb, leb-false}
@@ -147,7 +147,7 @@ paired_others id n own (x ∷ xs) same above kept =
     (subst HasPairedRest (sym (skipped_by false id n x other)) (All-head HasPairedRest x xs kept))
     (paired_others id n own xs same (All-tail (λ (later : Snapshot). own < later.id) x xs above) (All-tail HasPairedRest x xs kept))
 
--- what is left of a text behind so many units, which end inside no pair
+-- the rest of a text without lone surrogates behind n units that do not end inside a pair
 paired_behind : (x : List ℕ) (n : ℕ) → cuts_pair x n ≡ false → IsPaired x → IsPaired (drop n x)
 paired_behind x n whole h = by (nat_le n (length x)) refl
   where
@@ -342,7 +342,7 @@ IsPairedState-close (Ok x) old new id done h =
     with_shelf_paired old new (flat_close old.shelf id) done (λ shelf e. paired_closed (is_open old.shelf id) old.shelf shelf id _ e h.shelf) h
 IsPairedState-close (Err e) old new id done h = subst IsPairedState (sym done.0) h
 
--- units are skipped that end inside no pair
+-- a skip of units that do not end inside a pair
 pub IsPairedState-skip : (old new : FlatState) (id n : ℕ) → IsSound old.shelf → new ≡ flat_skipped old id n
     → EndsBesidePairs old id n → IsPairedState old → IsPairedState new
 IsPairedState-skip old new id n sound is whole h =

@@ -22,12 +22,12 @@ use Rattle.document_rules.specs.Brackets.{line_contents, IsSmall}
 
 -- ---- contents of lines
 
--- each of them has at most so many units
+-- each of the lists has at most n units
 abbrev AreShort : ℕ → List (List ℕ) → Type 0
 AreShort n [] = ⊤
 AreShort n (x ∷ xs) = (length x ≤ n) × AreShort n xs
 
--- the lines of a text of so many units
+-- the lines of a text of n units: at most n + 1 lines, each with at most n units
 record AreFew (n : ℕ) (lines : List Line) : Type 0 where
   pub count : length lines ≤ suc n
   pub short : AreShort n (map (λ line. line.content) lines)
@@ -56,7 +56,7 @@ lines_few [] = record { count = omega arith; short = (omega arith, tt) }
 lines_few (u ∷ after) =
     AreFew-step (length after) u (u == carriage_return && begins_with line_feed after) (u == carriage_return || u == line_feed) (lines_of after) (lines_few after)
 
--- ---- what holds of the place of each bracket
+-- ---- a property of the place of each bracket
 
 start_within : (column columns : ℕ) (ts : List Token) → AreInLine column columns ts → column ≤ columns
 start_within column columns [] h = h

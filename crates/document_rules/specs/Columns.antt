@@ -10,17 +10,17 @@ abbrev pub or_range : {A : Type 0} → Option A → Result A FlatRefusal
 or_range None = Err range
 or_range (Some x) = Ok x
 
--- what is told of the content of a line, if there is such a line
+-- applies `tell` to the content of a line; `range` where it returns None
 abbrev pub of_line : {A : Type 0} → (List ℕ → Option A) → Result (List ℕ) FlatRefusal → Result A FlatRefusal
 of_line tell (Err why) = Err why
 of_line tell (Ok content) = or_range (tell content)
 
--- how many bytes, units or code points of its line stand before the position, whose column is no less than 1
+-- the number of bytes, units or code points of its line before the position; `range` if the column is 0
 abbrev pub flat_column_in : FlatState → Encoding → Position → Result ℕ FlatRefusal
 flat_column_in f encoding p =
     of_line (λ content. if p.column == 0 then None else column_in encoding content (p.column - 1)) (flat_line f p.line)
 
--- the column of the place in the line before which so many stand
+-- converts a count of bytes, units or code points from the start of a line into a column
 abbrev pub flat_column_of : FlatState → Encoding → ℕ → ℕ → Result ℕ FlatRefusal
 flat_column_of f encoding line before =
     of_line (λ content. option_map (λ offset. offset + 1) (offset_of encoding content before)) (flat_line f line)

@@ -1,5 +1,5 @@
--- The flat document: one list of units and one of decorations, changed by the rule of each call. What can be undone is
--- kept as whole texts.
+-- The flat document: one list of units and one of decorations, changed by the rule of each call. The undo history keeps
+-- whole texts.
 use Rattle.std.specs.Prelude.{ℕ, ◌+◌, ◌-◌, ◌||◌, Bool, true, false, nat_lt, nat_le, if◌then◌else◌, List, [], ◌∷◌, ◌++◌, length, map, take, drop, Option, Some, None, option_map, Result, Ok, Err}
 use Rattle.text_lengths.specs.declared.Position.{Position}
 use Rattle.text_lengths.specs.declared.Span.{Span}
@@ -40,11 +40,11 @@ pub record FlatText : Type 0 where
   pub units : List ℕ
   pub kind : Kind
 
--- what was done to a text
+-- the kind of a change
 pub data Deed : Type 0 where
-  -- a batch of ops, in their order and with texts of the kind, was carried out
+  -- a batch of ops, sorted and with line endings of the kind
   batch : List Op → Deed
-  -- its line endings became those of another kind
+  -- a conversion of all line endings to another kind
   recast : Deed
 
 -- one accepted change, with the whole text before and after it
@@ -53,8 +53,8 @@ pub record FlatChange : Type 0 where
   pub deed : Deed
   pub after : FlatText
 
--- What the last change did: the whole text before it, and the batches that led from that to the text of now, in the order in
--- which they were carried out. Which ops force decorations is told as it was when they were first made.
+-- The last change: the whole text before it, and the batches that lead from it to the current text, in the order in which they
+-- were carried out. The `force` flags of the ops are those of the original edits.
 pub record LastChange : Type 0 where
   pub before : List ℕ
   pub batches : List (List Op)
@@ -65,18 +65,18 @@ pub record FlatState : Type 0 where
   pub units : List ℕ
   -- all line endings are of this kind
   pub kind : Kind
-  -- 1 for a new document, and one more with each accepted change
+  -- 1 for a new document, increased by one with each accepted change
   pub version : ℕ
-  -- the version at which the text was last as it is now
+  -- the version that made the current text; undo and redo restore it together with the text
   pub alternative : ℕ
   pub decorations : Decorations
-  -- which texts are brackets
+  -- the texts that are brackets, and the marks of comments and strings that hide them
   pub scanner : Scanner
-  -- what can be undone and redone
+  -- the undo and redo steps
   pub history : Stack FlatChange
-  -- the texts of earlier moments that are read from their fronts
+  -- the snapshots, each read from its front
   pub shelf : FlatShelf
-  -- an edit, other line endings, an undo or a redo; none in a new document
+  -- the last edit, conversion of line endings, undo or redo; None in a new document
   pub last : Option LastChange
 
 -- a new document with this text, these brackets and this kind of line ending
@@ -100,7 +100,7 @@ empty_document = new_document [] standard_scanner Mixed
 abbrev pub unless_too_long : List ℕ → Scanner → Kind → Result FlatState FlatRefusal
 unless_too_long units scanner kind = if nat_lt most_units (length units) then Err limit else Ok (new_document units scanner kind)
 
--- a new document, whose text gets the line endings of its kind
+-- a new document, whose text gets the line endings of the kind; `limit` if it is too long
 abbrev pub flat_open : List ℕ → Scanner → Kind → Result FlatState FlatRefusal
 flat_open text scanner kind = unless_too_long (normalized kind text) scanner kind
 
@@ -111,21 +111,21 @@ text_now f = record { units = f.units; kind = f.kind }
 abbrev pub edit_of : Op → Edit
 edit_of op = record { start = op.span.start; end = op.span.end; units = length op.text; force = op.force }
 
--- decorations that were moved by the ops, from the last to the first
+-- the decorations after the ops, from the last op to the first
 abbrev pub carried_by : Decorations → List Op → Decorations
 carried_by d ops = record d { marks = carried d.marks (map edit_of ops) }
 
--- the batch that a deed was
+-- a deed as a batch
 abbrev pub ops_on : FlatText → Deed → FlatText → List Op
 ops_on before (batch ops) after = ops
 ops_on before recast after = whole_op before.units after.units
 
--- the batch that takes it back
+-- the inverse of a deed as a batch
 abbrev pub ops_back : FlatText → Deed → FlatText → List Op
 ops_back before (batch ops) after = inverse_from 0 0 before.units ops
 ops_back before recast after = whole_op after.units before.units
 
--- a deed as edits in turn, and those that take it back: of other line endings those that differ
+-- A deed as edits in turn, and its inverse. A conversion of line endings has an edit only for each ending that differs.
 abbrev pub edits_on : FlatText → Deed → FlatText → List Op
 edits_on before (batch ops) after = one_by_one ops
 edits_on before recast after = ending_edits before.units after.units
@@ -134,11 +134,11 @@ abbrev pub edits_back : FlatText → Deed → FlatText → List Op
 edits_back before (batch ops) after = one_by_one (inverse_from 0 0 before.units ops)
 edits_back before recast after = ending_edits after.units before.units
 
--- these batches, which are these edits in turn, led from the text of the document to a new one
+-- the last change that leads from the text of the document to a new one, by these batches, or by these edits in turn
 abbrev pub leading : FlatState → List (List Op) → List Op → Option LastChange
 leading f batches edits = Some (record { before = f.units; batches = batches; edits = edits })
 
--- the next version, with this text, after a deed that took it there
+-- the next version, whose text the deed made
 abbrev pub after_deed : FlatState → Deed → FlatText → Decorations → FlatState
 after_deed f deed text decorations = record f {
   units = text.units;
@@ -150,12 +150,12 @@ after_deed f deed text decorations = record f {
   last = leading f (ops_on (text_now f) deed text ∷ []) (edits_on (text_now f) deed text);
 }
 
--- after a batch of ops that were checked
+-- the document after a checked batch of ops
 abbrev pub after_batch : FlatState → List Op → FlatState
 after_batch f ops =
     after_deed f (batch ops) (record { units = applied_from 0 f.units ops; kind = f.kind }) (carried_by f.decorations ops)
 
--- why a batch is refused
+-- the refusal of a batch as one of the document
 abbrev pub batch_refusal : BatchRefusal → FlatRefusal
 batch_refusal refused.range = range
 batch_refusal refused.overlap = overlap
@@ -165,23 +165,23 @@ abbrev pub edited_by : FlatState → Result (List Op) BatchRefusal → Result Fl
 edited_by f (Err why) = Err (batch_refusal why)
 edited_by f (Ok ops) = if nat_le greatest_version f.version then Err limit else Ok (after_batch f ops)
 
--- a batch of edits at once
+-- an edit by one batch of ops
 abbrev pub flat_edit : FlatState → List Op → Result FlatState FlatRefusal
 flat_edit f ops = edited_by f (checked_batch f.kind f.units ops)
 
--- the next edit begins a step of undo
+-- closes the undo step: the next edit begins a new one
 abbrev pub flat_stop : FlatState → FlatState
 flat_stop f = record f { history = stopped f.history }
 
--- the step that was made last is one of several documents
+-- the last step becomes a joint step with this tag
 abbrev pub flat_tag : FlatState → Tag → FlatState
 flat_tag f tag = record f { history = tagged f.history tag }
 
--- no step is one of these documents any more
+-- removes the tag from the steps that have it
 abbrev pub flat_untag : FlatState → Tag → FlatState
 flat_untag f tag = record f { history = untagged f.history tag }
 
--- the last c steps that it made with document n are steps alone
+-- removes the tags of the last c joint steps that it shares with document n
 abbrev pub flat_untag_last : FlatState → ℕ → ℕ → FlatState
 flat_untag_last f n c = record f { history = with_steps f.history (untagged_last n c (all_steps f.history)) }
 
@@ -198,20 +198,20 @@ is_same_kind Crlf Mixed = false
 is_same_kind Crlf Lf = false
 is_same_kind Crlf Crlf = true
 
--- decorations that keep line and column when one text becomes another
+-- the decorations when one text becomes another with the same line contents: they keep line and column
 abbrev pub carried_to : Decorations → List ℕ → List ℕ → Decorations
 carried_to d before after = record d { marks = carried_with_lines (line_moves before after) d.marks }
 
--- the text with the line endings of a kind
+-- the text with its line endings converted to a kind
 abbrev pub recast_to : Kind → List ℕ → FlatText
 recast_to kind x = record { units = normalized kind x; kind = kind }
 
--- the change of the endings, which is a step of undo of its own
+-- the document after a conversion of its line endings, which is an undo step of its own
 abbrev pub after_recast : FlatState → Kind → FlatState
 after_recast f kind =
     flat_stop (after_deed (flat_stop f) recast (recast_to kind f.units) (carried_to f.decorations f.units (normalized kind f.units)))
 
--- the line endings become those of the kind; nothing where they are so already
+-- converts the line endings to the kind; None if the document is of this kind already
 abbrev pub flat_eol : FlatState → Kind → Result (Option FlatState) FlatRefusal
 flat_eol f kind =
     if is_same_kind kind f.kind then Ok None else
@@ -220,37 +220,37 @@ flat_eol f kind =
 
 -- ---- undo and redo
 
--- the whole text before the first of these changes; the text now, where there are none
+-- the whole text before the first of these changes; the current text if there are none
 abbrev pub text_before : FlatText → List FlatChange → FlatText
 text_before now [] = now
 text_before now (change ∷ changes) = change.before
 
--- the whole text after the last of them
+-- the whole text after the last of these changes; the current text if there are none
 abbrev pub text_after : FlatText → List FlatChange → FlatText
 text_after now [] = now
 text_after now (change ∷ changes) = text_after change.after changes
 
--- Undo and redo move decorations as any edit does. Back: by the inverse of the ops, or with their lines.
+-- Undo and redo move decorations as edits do. Undo moves them by the inverse of the ops, or with their lines.
 abbrev pub taken_back : Decorations → FlatText → Deed → FlatText → Decorations
 taken_back d before (batch ops) after = carried_by d (inverse_from 0 0 before.units ops)
 taken_back d before recast after = carried_to d after.units before.units
 
--- the last change first
+-- the decorations after the undo of these changes, the last change first
 abbrev pub carried_back : Decorations → List FlatChange → Decorations
 carried_back d [] = d
 carried_back d (change ∷ changes) = taken_back (carried_back d changes) change.before change.deed change.after
 
--- On: by the ops, where nothing is forced, or with their lines.
+-- Redo moves decorations by the ops, without force, or with their lines.
 abbrev pub made_again : Decorations → FlatText → Deed → FlatText → Decorations
 made_again d before (batch ops) after = carried_by d (map unforced ops)
 made_again d before recast after = carried_to d before.units after.units
 
--- the changes in their order
+-- the decorations after the redo of these changes, in their order
 abbrev pub carried_on : Decorations → List FlatChange → Decorations
 carried_on d [] = d
 carried_on d (change ∷ changes) = carried_on (made_again d change.before change.deed change.after) changes
 
--- the batches that take the changes back, the last change first
+-- the batches that undo the changes, the last change first
 abbrev pub batches_back : List FlatChange → List (List Op)
 batches_back [] = []
 batches_back (change ∷ changes) = batches_back changes ++ ops_back change.before change.deed change.after ∷ []
@@ -259,7 +259,7 @@ batches_back (change ∷ changes) = batches_back changes ++ ops_back change.befo
 abbrev pub batches_on : List FlatChange → List (List Op)
 batches_on changes = map (λ (change : FlatChange). ops_on change.before change.deed change.after) changes
 
--- the same as edits in turn
+-- the same changes as edits in turn
 abbrev pub all_edits_back : List FlatChange → List Op
 all_edits_back [] = []
 all_edits_back (change ∷ changes) = all_edits_back changes ++ edits_back change.before change.deed change.after
@@ -268,7 +268,7 @@ abbrev pub all_edits_on : List FlatChange → List Op
 all_edits_on [] = []
 all_edits_on (change ∷ changes) = edits_on change.before change.deed change.after ++ all_edits_on changes
 
--- the next version, with the text and the alternative version of another moment, to which these batches led
+-- the next version after an undo or a redo: the batches led to a text that is restored with its alternative version
 abbrev pub returned : FlatState → FlatText → ℕ → Decorations → Stack FlatChange → List (List Op) → List Op → FlatState
 returned f text alternative decorations history batches edits = record f {
   units = text.units;
@@ -290,7 +290,7 @@ undone_step f (step ∷ steps) =
     (returned f (text_before (text_now f) step.changes) step.alt_before (carried_back f.decorations step.changes)
     (undone f.history) (batches_back step.changes) (all_edits_back step.changes))
 
--- back to the text before the last step; nothing where there is none
+-- undoes the last step; None if there is none
 abbrev pub flat_undo : FlatState → Result (Option FlatState) FlatRefusal
 flat_undo f = undone_step f f.history.undo
 
@@ -301,7 +301,7 @@ redone_step f (step ∷ steps) =
     (returned f (text_after (text_now f) step.changes) step.alt_after (carried_on f.decorations step.changes)
     (redone f.history) (batches_on step.changes) (all_edits_on step.changes))
 
--- on to the text after the step that was undone last; nothing where there is none
+-- redoes the step that was undone last; None if there is none
 abbrev pub flat_redo : FlatState → Result (Option FlatState) FlatRefusal
 flat_redo f = redone_step f f.history.redo
 
@@ -309,15 +309,15 @@ abbrev pub edits_of : Option LastChange → List Op
 edits_of None = []
 edits_of (Some last) = last.edits
 
--- the last change as an event by which another text can follow; none in a new document
+-- the last change as an event for a mirror; None in a new document
 abbrev pub flat_event : FlatState → Option EventState
 flat_event f = option_map (λ (last : LastChange). record { from = f.version - 1; batches = last.batches }) f.last
 
--- what the last change did, as edits in turn; none in a new document
+-- the last change as edits in turn; no edits in a new document
 abbrev pub flat_changes : FlatState → List Op
 flat_changes f = edits_of f.last
 
--- why decorations are not changed
+-- the refusal of a change of decorations as one of the document
 abbrev pub decoration_refusal : DecoRefusal → FlatRefusal
 decoration_refusal undecorated.unknown = unknown
 decoration_refusal undecorated.range = range
@@ -327,7 +327,7 @@ abbrev pub with_decorations : FlatState → Result Decorations DecoRefusal → R
 with_decorations f (Err why) = Err (decoration_refusal why)
 with_decorations f (Ok d) = Ok (record f { decorations = d })
 
--- decorations of one owner go, and new ones come
+-- removes decorations of an owner by their ids, and adds new ones
 abbrev pub flat_decorate : FlatState → ℕ → List ℕ → List NewDeco → Result FlatState FlatRefusal
 flat_decorate f owner remove add = with_decorations f (decorated f.decorations owner remove add f.kind f.units)
 
@@ -335,7 +335,7 @@ flat_decorate f owner remove add = with_decorations f (decorated f.decorations o
 abbrev pub flat_deco : FlatState → ℕ → Option Deco
 flat_deco f id = deco_at f.decorations id
 
--- those that touch the span, of all owners or of one
+-- the decorations that touch the span, of all owners or of one
 abbrev pub flat_decos : FlatState → Span → Option ℕ → Result (List Deco) FlatRefusal
 flat_decos f span owner = if is_bad_span f.kind f.units span then Err range else Ok (decos_in f.decorations span owner)
 
@@ -343,7 +343,7 @@ abbrev pub content_of : Option Line → Result (List ℕ) FlatRefusal
 content_of None = Err range
 content_of (Some line) = Ok line.content
 
--- the content of the line of this number
+-- the content of line n, counted from 1; `range` if there is no such line
 abbrev pub flat_line : FlatState → ℕ → Result (List ℕ) FlatRefusal
 flat_line f n = content_of (line_at f.units n)
 
@@ -351,14 +351,14 @@ flat_line f n = content_of (line_at f.units n)
 abbrev pub flat_value : FlatState → Span → Result (List ℕ) FlatRefusal
 flat_value f span = if is_bad_span f.kind f.units span then Err range else Ok (take (span.end - span.start) (drop span.start f.units))
 
--- where the offset is, by line and column; none where it is no place
+-- the line and column of an offset; None if it is no place of the text
 abbrev pub flat_position : FlatState → ℕ → Option Position
 flat_position f offset = if is_place_in f.kind f.units offset then Some (position_of f.units offset) else None
 
--- the offset of a position; none where it is not one of the text
+-- the offset of a position; None if it is invalid
 abbrev pub flat_offset : FlatState → Position → Option ℕ
 flat_offset f p = if is_position f.units p then Some (offset_of f.units p) else None
 
--- how many lines the text has
+-- the number of lines of the text
 abbrev pub flat_line_count : FlatState → ℕ
 flat_line_count f = length (lines_of f.units)

@@ -25,7 +25,7 @@ op start end text = record { span = record { start = start; end = end }; text = 
 abbrev mixed : List ℕ → FlatText
 mixed units = record { units = units; kind = Mixed }
 
--- a text of these two versions, to which these batches of ops led from another, with what can be undone and redone
+-- a document with this text, versions, last change, and undo and redo steps
 abbrev at_version : ℕ → ℕ → List ℕ → List (List Op) → List ℕ → Stack FlatChange → FlatState
 at_version version alternative before batches text history = record (new_document text standard_scanner Mixed) {
   version = version;
@@ -58,11 +58,11 @@ an_edit_at_the_last_version : flat_edit (record (new_document (codes "ab") stand
     ≡ Err limit
 an_edit_at_the_last_version = refl
 
--- "a", after an edit has put "b" behind it
+-- "a", after an edit that appends "b"
 abbrev one_edit : FlatState
 one_edit = after_batch (new_document (codes "a") standard_scanner Mixed) (op 1 1 (codes "b") ∷ [])
 
--- ... and an undo has taken it back
+-- ... and after the undo of this edit
 abbrev undone_edit : FlatState
 undone_edit = at_version 3 1 (codes "ab") ((op 1 2 [] ∷ []) ∷ []) (codes "a")
     (record { undo = []; redo = one_edit.history.undo; is_open = false })
@@ -101,7 +101,7 @@ a_new_document_has_no_changes = refl
 abbrev two_ops : List Op
 two_ops = op 0 1 (codes "XX") ∷ op 2 3 (codes "Y") ∷ []
 
--- of two ops in one batch the last one comes first
+-- the edits of a batch of two ops begin with the last one
 the_changes_of_two_ops : flat_changes (after_batch (new_document (codes "abcd") standard_scanner Mixed) two_ops)
     ≡ op 2 3 (codes "Y") ∷ op 0 1 (codes "XX") ∷ []
 the_changes_of_two_ops = refl
@@ -115,7 +115,7 @@ changes_then (Ok (Some f)) = flat_changes f
 changes_then (Ok None) = []
 changes_then (Err why) = []
 
--- the second edit of the step is taken back first
+-- the second edit of the step is undone first
 the_changes_of_an_undo : changes_then (flat_undo two_edits) ≡ op 2 3 [] ∷ op 1 2 [] ∷ []
 the_changes_of_an_undo = refl
 
@@ -138,7 +138,7 @@ a_decoration_of_one_place : flat_decorate (new_document (codes "ab") standard_sc
     ≡ Ok decorated_text
 a_decoration_of_one_place = refl
 
--- where the decoration stands
+-- the span of the decoration
 abbrev stands_at : FlatState → Option Deco
 stands_at f = flat_deco f 1
 
@@ -154,7 +154,7 @@ forced_insert = after_batch decorated_text (forced_op ∷ [])
 a_forced_insert_moves_it : stands_at forced_insert ≡ Some (deco 2 2)
 a_forced_insert_moves_it = refl
 
--- where the decoration stands after an undo
+-- the span of the decoration after an undo
 abbrev stands_back_at : Result (Option FlatState) FlatRefusal → Option Deco
 stands_back_at (Ok (Some f)) = stands_at f
 stands_back_at (Ok None) = None
@@ -176,7 +176,7 @@ an_undo_moves_it_back_over_both = refl
 it_touches_the_unit_before_it : flat_decos decorated_text (record { start = 0; end = 1 }) None ≡ Ok (deco 1 1 ∷ [])
 it_touches_the_unit_before_it = refl
 
--- a redo forces nothing: the decoration grows, which it did not at first
+-- a redo forces nothing: the decoration grows, as it did not in the original edit
 a_redo_forces_nothing : carried_on decorated_text.decorations
     (record { before = mixed (codes "ab"); deed = batch (forced_op ∷ []); after = mixed (codes "axb") } ∷ [])
     ≡ record { marks = mark_at 1 2 ∷ []; next_id = 2 }
@@ -234,11 +234,11 @@ level_after_a_pair = refl
 level_at_the_end : flat_level (new_document (codes "([)]{") standard_scanner Mixed) (record { line = 1; column = 6 }) ≡ Ok 1
 level_at_the_end = refl
 
--- the one snapshot, of which this is left to read
+-- the only snapshot, with this unread rest
 abbrev one_snapshot : List ℕ → FlatShelf
 one_snapshot rest = record { snapshots = record { id = 1; rest = rest } ∷ []; next_id = 2 }
 
--- `hi`, which was put on the shelf
+-- `hi`, of which a snapshot was taken
 abbrev hi : FlatState
 hi = record (new_document (codes "hi") standard_scanner Mixed) { shelf = one_snapshot (codes "hi") }
 
@@ -255,7 +255,7 @@ an_edit_leaves_the_snapshot = refl
 what_was_read_is_read_once : flat_peek_of (flat_skipped hi_edited 1 2) 1 2 ≡ Ok []
 what_was_read_is_read_once = refl
 
--- of `a` and two surrogates that are a pair, two units end inside it
+-- the first two units of `a` and a surrogate pair end inside the pair
 abbrev smile : FlatState
 smile = record (new_document [] standard_scanner Mixed) { shelf = one_snapshot (97 ∷ 0xD83D ∷ 0xDE00 ∷ []) }
 
@@ -325,7 +325,7 @@ no_place_inside_an_ending = refl
 texts_of_an_edit_get_them_too : flat_line_count (after_batch three_pairs (op 7 7 (codes "x\r\ny") ∷ [])) ≡ 4
 texts_of_an_edit_get_them_too = refl
 
--- an undo gives text and kind back, and takes the decoration along
+-- an undo restores text and kind, and moves the decoration along
 abbrev undone_endings : FlatState
 undone_endings = record three_lines {
   version = 3;
@@ -340,7 +340,7 @@ undone_endings = record three_lines {
 endings_are_taken_back : flat_undo three_pairs ≡ Ok (Some undone_endings)
 endings_are_taken_back = refl
 
--- of three endings the one that is an LF already is not told
+-- of three endings, the one that is an LF already gets no edit
 only_other_endings_change : changes_then (flat_eol (new_document (codes "a\r\nb\nc\r") standard_scanner Mixed) Lf)
     ≡ op 6 7 (codes "\n") ∷ op 1 3 (codes "\n") ∷ []
 only_other_endings_change = refl

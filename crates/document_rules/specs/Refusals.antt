@@ -1,10 +1,10 @@
--- Why a rule of the flat document refuses. Want of memory is no such reason: the flat document takes none.
+-- The reasons for which a rule of the flat document refuses. Lack of memory is not among them: the flat document allocates none.
 pub data FlatRefusal : Type 0 where
-  -- a named thing is not there
+  -- a named item does not exist
   unknown : FlatRefusal
-  -- a place, a line or a span is not one of the text
+  -- an offset, a position, a line or a span is invalid in the text
   range : FlatRefusal
   -- two edits of a batch overlap
   overlap : FlatRefusal
-  -- a limit would be passed
+  -- a limit would be exceeded
   limit : FlatRefusal

@@ -5,15 +5,15 @@ use Rattle.unicode_segmentation.specs.Grapheme.{graphemes}
 use Rattle.document_rules.specs.Refusals.{FlatRefusal}
 use Rattle.document_rules.specs.Document.{FlatState, flat_line}
 
--- the extended grapheme clusters that the units spell, each in UTF-8; a surrogate that stands in no pair counts as U+FFFD
+-- the extended grapheme clusters of the units, each in UTF-8; a lone surrogate counts as U+FFFD
 abbrev pub clusters_of : List ℕ → List (List ℕ)
 clusters_of units = graphemes true (utf8_of units)
 
--- how many units a cluster takes: a character above U+FFFF takes two
+-- the number of UTF-16 units of a cluster: a character above U+FFFF has two
 abbrev pub width : List ℕ → ℕ
 width cluster = length (units_of cluster)
 
--- the columns at which clusters start that stand one after another from a column on
+-- the start columns of consecutive clusters, the first of which starts at the given column
 abbrev pub starts_from : ℕ → List (List ℕ) → List ℕ
 starts_from column [] = []
 starts_from column (cluster ∷ more) = column ∷ starts_from (column + width cluster) more
@@ -26,6 +26,6 @@ abbrev pub stops_in : Result (List ℕ) FlatRefusal → Result (List ℕ) FlatRe
 stops_in (Err why) = Err why
 stops_in (Ok content) = Ok (stops_of content)
 
--- the stops of the line of this number; `range` where there is no such line
+-- the stops of line n, counted from 1; `range` if there is no such line
 abbrev pub flat_stops : FlatState → ℕ → Result (List ℕ) FlatRefusal
 flat_stops f n = stops_in (flat_line f n)

@@ -1,24 +1,24 @@
-//! What a document does: the flat document and its calls, which contracts cite.
+//! Specifies a document: the flat document and its calls. Contracts cite these definitions.
 #![tactic(auto)]
 
 use thiserror::Error;
 
-/// Why a call on a document was refused.
+/// The reason why a call on a document fails.
 #[derive(Clone, Copy, PartialEq, Eq, Debug, Error)]
 pub enum ModelError {
-    /// A named thing is not there.
+    /// A named item does not exist.
     #[error("a named thing is not there")]
     Unknown,
-    /// A place, a line or a span is not one of the text.
+    /// An offset, a position, a line or a span is invalid in the text.
     #[error("a place, a line or a span is not one of the text")]
     Range,
     /// Two edits of a batch overlap.
     #[error("two edits overlap")]
     Overlap,
-    /// A limit would be passed.
+    /// A limit would be exceeded.
     #[error("a limit would be passed")]
     Limit,
-    /// There was no memory for the call.
+    /// Out of memory.
     #[error("out of memory")]
     Memory,
 }

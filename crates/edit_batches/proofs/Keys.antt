@@ -30,7 +30,7 @@ is_less a b = is_lt (ordering_then (nat_cmp a.span.end b.span.end) (nat_cmp a.sp
 pub is_less_is : (a b : Op) → is_less a b ≡ not (stands_before b a)
 is_less_is a b = by_end a.span.end b.span.end a.span.start b.span.start
 
--- what a test of each op and the next one tells of the order of all
+-- a test of each op and the next one decides the order of all
 pub told_in_order : (ops : List Op) (r : Bool) → IsAllAdjacentAnswer (λ a b t. t ≡ stands_before a b) ops r → r ≡ true → sorted_ops ops ≡ ops
 told_in_order ops true told e = sorted_next ops (λ k d inside. sym (told k d inside))
 told_in_order ops false told e = absurd (let wrong : false ≡ true = e in cc)

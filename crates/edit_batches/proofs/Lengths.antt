@@ -1,4 +1,4 @@
--- How long a text is after a batch, by its length alone.
+-- The length of a text after a batch, from its length alone.
 use Rattle.std.proofs.Common.{◌≡◌, ℕ, ◌+◌, ◌-◌, ◌<◌, ◌≤◌, nat_lt, ◌||◌, Bool, true, false, not, cond, List, [], ◌∷◌, length, drop, get_or, Option, Some, None, refl, ap, sym, subst, ◌∙◌, length-drop, arith}
 use Rattle.std.specs.Option.{is_some}
 use Rattle.std.specs.List.{list_any}
@@ -13,7 +13,7 @@ use Rattle.edit_batches.proofs.Passes.{next_op}
 abbrev pub ends_above : ℕ → List Op → Bool
 ends_above len ops = list_any (λ op. nat_lt len op.span.end) ops
 
--- what follows a place of a text of this length is so long after the ops
+-- the length of the text from a place on after the ops, for a text of length `len`
 abbrev pub length_from : ℕ → ℕ → List Op → ℕ
 length_from len at [] = len - at
 length_from len at (op ∷ ops) = op.span.start - at + length op.text + length_from len op.span.end ops
@@ -35,7 +35,7 @@ length_standing at x [] standing = length-drop at x
 length_standing at x (op ∷ ops) standing =
     omega (arith, length-applied_from at x op ops standing, length_standing op.span.end x ops standing.2)
 
--- what the pass answers: nothing where an op ends above the text, or the ops leave too much, and else the length
+-- the result of the pass: None if an op ends above the text or the result is too long, else the length
 misfit_above : (x : List ℕ) (ops : List Op) → ends_above (length x) ops ≡ true → is_misfit x ops ≡ true
 misfit_above x ops above = rw above refl
 
@@ -69,13 +69,13 @@ none_where_cut false false n e = refl
 none_where_cut true false n e = cc
 none_where_cut false true n e = cc
 
--- where the ops stand in the text, there is no length for the one reason that it would be too great
+-- if the ops stand in the text, the result is None only because the new text would be too long
 pub none_where_long : (x : List ℕ) (ops : List Op) (r : Option ℕ) (none : Bool) → StandFrom 0 x ops → r ≡ length_after x ops → is_some r ≡ not none
     → none ≡ nat_lt most_units (length (applied_from 0 x ops))
 none_where_long x ops r none standing e is =
     none_where_cut _ none _ (rw (e, below_standing 0 x ops standing) at is)
 
--- what is known of the op at a place of the pass
+-- the properties of the op at a position of the pass
 pub record IsMeasured (len at : ℕ) (ops : List Op) (i : ℕ) (op : Op) : Type 0 where
   pub above : at ≤ op.span.start
   pub ordered : op.span.start ≤ op.span.end

@@ -6,7 +6,7 @@ use Rattle.text_rules.specs.declared.Op.{Op}
 use Rattle.batch_rules.specs.Batches.{overlap, applied_from, inverse_from, StandFrom}
 use Rattle.batch_rules.proofs.Standing.{standing_within, length-applied_from}
 
--- whether one of the ops starts below the end of the one before it, of which the first stands behind this place
+-- whether one of the ops starts below the end of the one before it, or the first starts below `end`
 abbrev pub overlap_after : ℕ → List Op → Bool
 overlap_after end [] = false
 overlap_after end (op ∷ ops) = ltb op.span.start end || overlap_after op.span.end ops
@@ -22,7 +22,7 @@ overlap_from_start (op ∷ ops) = rw (le-ltb op.span.start 0 (omega arith)) (sym
 pub next_op : (ops : List Op) (i : ℕ) (op : Op) → i < length ops → op ≡ get_or ops i op → drop i ops ≡ op ∷ drop (i + 1) ops
 next_op ops i op inside e = drop_more ops i op inside ∙ ap (λ o. o ∷ drop (i + 1) ops) (sym e)
 
--- what is known of the op at a place of the pass
+-- the properties of the op at a position of the pass
 pub record IsPassed (at : ℕ) (x : List ℕ) (ops : List Op) (i : ℕ) (op : Op) : Type 0 where
   pub above : at ≤ op.span.start
   pub ordered : op.span.start ≤ op.span.end

@@ -1,4 +1,4 @@
-//! A batch that was checked.
+//! A checked batch.
 
 ghost use Rattle.std.specs.Prelude.{◌≡◌, ℕ, ◌+◌, ◌<◌, ◌≤◌, ◌^◌, [], ◌∷◌, length, Err, IfOk, List};
 ghost use Rattle.batch_rules.specs.Batches.{most_units, applied_from, applied, checked_batch, ops_in, inverse_from, text_units, StandFrom, FollowFrom};
@@ -16,7 +16,7 @@ use text_lengths::Span;
 use text_rules::Op;
 use unit_text::{Flat, Units};
 
-/// Edits of one text, in their order and without overlap. Contracts see the list of them.
+/// Edits of one text, in order and without overlap. Contracts see the list of them.
 #[derive(Drop)]
 pub struct Batch {
     ops: Vec<Op>,
@@ -35,8 +35,9 @@ impl Model for Batch {
 }
 
 impl Batch {
-    /// A batch of these edits of the text, with texts of its kind. `Range` where a span is invalid; else `Overlap` where two
-    /// of them overlap; else `Limit` where the new text would be too long. It takes memory only where a text has other line endings.
+    /// Returns a batch of these edits, with their texts in the line endings of the text's kind. Fails with `Range` if a span is invalid;
+    /// else with `Overlap` if two edits overlap; else with `Limit` if the new text would be too long. Allocates only if an edit's text has
+    /// other line endings, and then may fail with `Memory`.
     pub fn checked<F: Flat>(ops: Sorted, text: &F) -> Result<Batch, BatchError>
         ensures rule { Checks result (checked_batch (F.kind text.now) (F.units text.now) ops) }
         ensures standing { IfOk result (λ b. StandFrom 0 (F.units text.now) b) }
@@ -58,8 +59,7 @@ impl Batch {
         Ok(Batch { ops })
     }
 
-    /// The batch that takes this one back, where the text is the one before it. It reads the units that this one takes
-    /// away, and no others.
+    /// Returns the batch that undoes this one; `text` is the text before this one. Reads only the units that this batch deletes.
     pub fn inverse<F: Flat>(&self, alloc: Global, text: &F) -> Result<Batch, AllocError>
         requires standing { StandFrom 0 (F.units text.now) self.now }
         requires fits { length (applied_from 0 (F.units text.now) self.now) ≤ most_units }
@@ -74,7 +74,7 @@ impl Batch {
         Ok(Batch { ops })
     }
 
-    /// The edits, in their order.
+    /// Returns the edits in order.
     pub fn ops(&self) -> &[Op]
         ensures ops { result.now ≡ self.now }
         ensures in_order { FollowFrom 0 self.now }
@@ -82,7 +82,7 @@ impl Batch {
         self.ops.as_slice()
     }
 
-    /// How many units the new texts have together.
+    /// Returns the total number of units of the edits' texts.
     pub fn text_units(&self) -> u64
         requires { text_units self.now < 2 ^ 64 }
         ensures { result ≡ text_units self.now }
@@ -90,7 +90,7 @@ impl Batch {
         self.ops.iter().map(|op| op.text.len()).sum()
     }
 
-    /// The batch of one edit that puts these units in the place of the span.
+    /// Returns the batch of one edit that replaces the span by these units.
     pub fn of_one(
         alloc: Global,
         span: Span,
@@ -105,14 +105,14 @@ impl Batch {
         Ok(Batch { ops })
     }
 
-    /// The batch of one edit that puts these units in the place of a text of so many units.
+    /// Returns the batch of one edit that replaces a whole text of `len` units by these units.
     pub fn of_whole(alloc: Global, len: u64, units: &[u16]) -> Result<Batch, AllocError>
         ensures { (x : List ℕ) → length x ≡ len → IfOk result (λ b. b ≡ whole_op x units.now) }
     {
         Batch::of_one(alloc, Span { start: 0, end: len }, units, false)
     }
 
-    /// A copy of the batch and of its texts.
+    /// Returns a copy of the batch and of its texts.
     pub fn copied(&self, alloc: Global) -> Result<Batch, AllocError>
         ensures { IfOk result (λ b. b ≡ self.now) }
     {
@@ -120,8 +120,8 @@ impl Batch {
         Ok(Batch { ops })
     }
 
-    /// How long a text of so many units is after the batch; None where one of the edits ends above its length, or the new text would
-    /// have more units than a text may have.
+    /// Returns the length after the batch of a text of `len` units; None if an edit ends above `len`, or the new text would have more units
+    /// than a text may have.
     pub fn length_after(&self, len: u64) -> Option<u64>
         ensures { (x : List ℕ) → length x ≡ len → result ≡ length_after x self.now }
     {
@@ -129,7 +129,7 @@ impl Batch {
     }
 }
 
-/// A list of the one edit that puts these units in the place of the span.
+/// Returns a list of one edit that replaces the span by these units.
 pub fn one_op(alloc: Global, span: Span, units: &[u16], force: bool) -> Result<Vec<Op>, AllocError>
     ensures { IfOk result (λ ops. ops.items
         ≡ record { span = span; text = units.now; force = force } ∷ []) }

@@ -1,4 +1,4 @@
-//! The tests of a batch.
+//! The checks of a batch.
 
 ghost use Rattle.std.specs.Prelude.{◌≡◌, nat_lt, length, List, ℕ};
 ghost use Rattle.batch_rules.specs.Batches.{most_units, has_bad_span, overlap, applied_from, StandFrom, FollowFrom};
@@ -13,7 +13,7 @@ pub(crate) fn has_bad_span<F: Flat>(ops: &[Op], text: &F) -> bool
     ops.iter().any(|op| is_bad_span(text, op.span))
 }
 
-/// Whether one of the edits, which are in order, starts below the end of the one before it.
+/// Returns whether one of the edits, which are in order, starts below the end of the one before it.
 pub(crate) fn overlap(ops: &[Op]) -> bool
     ensures { result ≡ overlap ops.now }
 {
@@ -27,7 +27,7 @@ pub(crate) fn overlap(ops: &[Op]) -> bool
     false
 }
 
-/// Whether the text after the edits would have more units than a text may have.
+/// Returns whether the text after the edits would have more units than a text may have.
 pub(crate) fn is_too_long<F: Flat>(ops: &[Op], text: &F) -> bool
     requires { StandFrom 0 (F.units text.now) ops.now }
     ensures { result ≡ nat_lt most_units (length (applied_from 0 (F.units text.now) ops.now)) }
@@ -35,8 +35,8 @@ pub(crate) fn is_too_long<F: Flat>(ops: &[Op], text: &F) -> bool
     length_after(text.len(), ops).is_none()
 }
 
-/// How long a text of so many units is after the edits, which are in order and apart; None where one ends above its length,
-/// or the new text would have more units than a text may have.
+/// Returns the length of a text of `len` units after the edits, which are in order and do not overlap; None if one ends above `len`, or the
+/// new text would have more units than a text may have.
 pub(crate) fn length_after(len: u64, ops: &[Op]) -> Option<u64>
     requires { FollowFrom 0 ops.now }
     ensures { (x : List ℕ) → length x ≡ len → result ≡ length_after x ops.now }

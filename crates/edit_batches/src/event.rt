@@ -1,4 +1,4 @@
-//! A change of a text, by which another text can follow it.
+//! A change of a text, which can be repeated on a copy of it.
 
 ghost use Rattle.std.specs.Prelude.{◌≡◌, ◌<◌};
 ghost use Rattle.text_lengths.specs.declared.TheConstants.{GREATEST_NUMBER};
@@ -6,8 +6,8 @@ ghost use Rattle.text_lengths.specs.declared.TheConstants.{GREATEST_NUMBER};
 use crate::batch::Batch;
 use std::marker::Model;
 
-/// A change of a text: the version before it, which is below the greatest number, and the batches that were carried out, in their
-/// order. An undo or a redo may have several.
+/// A change of a text: the version before it, which is below `GREATEST_NUMBER`, and the batches that were applied, in order. An undo or a
+/// redo may have several.
 #[derive(Drop)]
 pub struct Event {
     from: u64,
@@ -35,7 +35,7 @@ impl Event {
         Event { from, batches }
     }
 
-    /// The version before the change.
+    /// Returns the version before the change.
     pub fn from(&self) -> u64
         ensures from { result ≡ self.now.from }
         ensures below { result < GREATEST_NUMBER }
@@ -43,7 +43,7 @@ impl Event {
         self.from
     }
 
-    /// The batches, in the order in which they were carried out.
+    /// Returns the batches in the order in which they were applied.
     pub fn batches(&self) -> &[Batch]
         ensures { result.now ≡ self.now.batches }
     {

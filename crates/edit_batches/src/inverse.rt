@@ -1,4 +1,4 @@
-//! The edits that take a batch back.
+//! The edits that undo a batch.
 
 ghost use Rattle.std.specs.Prelude.{◌≡◌, ◌-◌, ◌<◌, ◌≤◌, length, take, drop, IfOk};
 ghost use Rattle.batch_rules.specs.Batches.{most_units, applied_from, inverse_from, StandFrom};
@@ -8,7 +8,7 @@ use text_lengths::Span;
 use text_rules::Op;
 use unit_text::{Flat, Units};
 
-/// The edits that take these back, each with the units that it puts back.
+/// Returns the edits that undo these, each with the units that it restores.
 pub(crate) fn inverse_of<F: Flat>(
     alloc: Global,
     ops: &[Op],
@@ -36,7 +36,7 @@ pub(crate) fn inverse_of<F: Flat>(
     Ok(back)
 }
 
-/// A copy of the units of a span of the text.
+/// Copies the units of a span of the text.
 fn units_between<F: Flat>(alloc: Global, text: &F, span: Span) -> Result<Units, AllocError>
     requires ordered { span.start ≤ span.end }
     requires within { span.end ≤ length (F.units text.now) }

@@ -1,4 +1,4 @@
-//! Batches of edits: put in their order, checked against a text, and the batch that takes them back.
+//! Batches of edits: sorted, checked against a text, and inverted.
 #![tactic(auto)]
 
 mod batch;

@@ -1,4 +1,4 @@
-//! The edits of a batch in their order.
+//! The order of the edits of a batch.
 
 ghost use Rattle.std.specs.Prelude.{◌≡◌, true, false, IfOk, IsOk};
 ghost use Rattle.batch_rules.specs.Batches.{stands_before, sorted_ops};
@@ -7,7 +7,7 @@ use std::alloc::AllocError;
 use std::marker::Model;
 use text_rules::Op;
 
-/// Edits in their order: by end, then by start, then as they came. Contracts see the list of them.
+/// Edits sorted by end, then by start; equal ones keep their given order. Contracts see the list of them.
 #[derive(Drop)]
 pub struct Sorted {
     ops: Vec<Op>,
@@ -26,7 +26,7 @@ impl Model for Sorted {
 }
 
 impl Sorted {
-    /// The edits, put in their order. It takes memory only where they come in another one.
+    /// Sorts the edits. Allocates only if they are not sorted yet.
     pub fn of(ops: Vec<Op>) -> Result<Sorted, AllocError>
         ensures sorted { IfOk result (λ sorted. sorted ≡ sorted_ops ops.items) }
         ensures sure { sorted_ops ops.items ≡ ops.items → IsOk result }
@@ -35,7 +35,7 @@ impl Sorted {
         Ok(Sorted { ops })
     }
 
-    /// The edits, in their order.
+    /// Returns the edits in order.
     pub fn ops(&self) -> &[Op]
         ensures ops { result.now ≡ self.now }
         ensures in_order { sorted_ops self.now ≡ self.now }

@@ -49,7 +49,7 @@ module _ {C : Type 0} where
       let (s, is, rest) = one_more es n within in
       (λ i. record { undo = before es n; redo = rest i; is_open = false }) ∙ sym (ap (λ l. undone_lists l (behind es (n + 1))) is)
 
-  -- there is nothing to redo where all are done
+  -- nothing can be redone if all elements are done
   pub redo_moves : (o : Option (Element C)) (es : List (Element C)) (done kept : ℕ) → (is_some o ≡ true → kept ≡ done) → 0 < length (behind (take kept es) done)
       → record { undo = opened o ++ before (take kept es) (done + 1); redo = behind (take kept es) (done + 1); is_open = is_some o }
       ≡ redone_lists (opened o ++ before (take kept es) done) (behind (take kept es) done) (is_some o)

@@ -1,4 +1,4 @@
--- The tags of the elements that were made last are taken off from the last one down.
+-- The tags of the last elements are removed, from the last one down.
 use Rattle.std.proofs.Common.{◌≡◌, ◌⊎◌, ℕ, ◌+◌, ◌-◌, ◌<◌, ◌≤◌, true, List, [], ◌∷◌, ◌++◌, take, drop, set, length, map, get_or, Option, refl, sym, ◌∙◌, ap, ap₂, arith, inl, inr}
 use Rattle.std.specs.Prelude.{is_some, min}
 use Rattle.std.proofs.lemmas.List.{map-append, length-append, length-set, take-append-drop, take-set, take-take, drop_all, drop_more, drop-set, get_or-take}
@@ -15,7 +15,7 @@ abbrev stack_of : {C : Type 0} → Option (Element C) → List (Element C) → �
 stack_of o es done kept = record { undo = opened o ++ before (take kept es) done; redo = behind (take kept es) done; is_open = is_some o }
 
 module _ {C : Type 0} (doc count : ℕ) where
-  -- Those of these elements from the number `at` on lost their tags, of which `left` are to be taken off still.
+  -- The elements from index `at` on have lost their tags, and `left` tags are still to be removed.
   pub record AreUntagged (left at : ℕ) (old new : List (Element C)) : Type 0 where
     pub first : take at new ≡ take at old
     pub later : map step_of (drop at new) ≡ untagged_last doc count (map step_of (drop at old))
@@ -53,7 +53,7 @@ module _ {C : Type 0} (doc count : ℕ) where
       fewer : (xs : List (Element C)) → take at xs ≡ take at (take (at + 1) xs)
       fewer xs = sym (take-take at (at + 1) xs (omega arith))
 
-  -- none is left, or none is before these
+  -- no tag is left to remove, or no element is left
   pub untagged_all : (left at : ℕ) (old new : List (Element C)) → AreUntagged left at old new → (left ≡ 0) ⊎ (at ≡ 0)
       → map step_of new ≡ untagged_last doc count (map step_of old)
   untagged_all left at old new so_far done =
@@ -71,7 +71,7 @@ module _ {C : Type 0} (doc count : ℕ) where
       stay (inr none) =
           ap (λ n. untagged_last doc left (map step_of (take n old))) none ∙ sym (ap (λ n. map (step_of {C = C}) (take n old)) none)
 
-  -- of all steps
+  -- the tags of all steps, with the open one
   pub last_untagged : (new o : Option (Element C)) (es old : List (Element C)) (done kept : ℕ) → (is_some o ≡ true → kept ≡ done) → is_some new ≡ is_some o
       → length es ≡ length old → opened new ≡ untagged_last doc count (opened o)
       → map step_of (take kept es) ≡ untagged_last doc (count - tagged_count doc (opened o)) (map step_of (take kept old))

@@ -60,7 +60,7 @@ module _ {C : Type 0} where
       sym (list_any_at p (map step_of (take kept es)) at (step_of e) (omega (arith, inside, length_kept es kept within))
       (ap p (step_kept es kept at e within inside read) ∙ passes))
 
-  -- What the steps of a stack are in the order in which they were made.
+  -- The steps of a stack in the order in which they were made.
   module _ (s : Stack C) (o : Option (Element C)) (es : List (Element C)) (kept : ℕ) (within : kept ≤ length es)
       (steps : all_steps s ≡ map step_of (take kept es) ++ opened o) where
     pub holds_closed : (tag : Tag) → list_any (has_tag tag) (opened o) ≡ false → list_any (has_tag tag) (map step_of (take kept es)) ≡ holds s tag

@@ -1,4 +1,4 @@
--- What contracts see of a stack, and what its fields keep.
+-- What contracts see of a stack, and the invariant of its fields.
 use Rattle.std.specs.Prelude.{◌≡◌, ℕ, ◌+◌, ◌≤◌, ◌&&◌, Bool, true, nat_lt, if◌then◌else◌, List, [], ◌∷◌, ◌++◌, map, take, drop, reverse, length, Option, Some, None, is_some}
 use Rattle.edit_stack.specs.declared.element.Element.{Element}
 use Rattle.edit_stack.specs.declared.stack.EditStack.TheInside.{Inside}
@@ -15,11 +15,11 @@ module _ {C : Type 0} where
   abbrev pub kept_elements : Inside C → List (Element C)
   kept_elements s = take s.kept s.elements.items
 
-  -- how many elements there are
+  -- the number of elements that can be undone or redone, with the open one
   abbrev pub element_count : Inside C → ℕ
   element_count s = s.kept + length (opened s.open_element)
 
-  -- whether the open element has room for one change more
+  -- whether the open element, if any, has room for one more change
   abbrev pub may_join : Option (Element C) → Bool
   may_join None = true
   may_join (Some e) = nat_lt (length e.more.items) e.more.capacity
@@ -42,5 +42,5 @@ module _ {C : Type 0} where
     pub done : s.done ≤ s.kept
     pub kept : s.kept ≤ length s.elements.items
     pub elements : element_count s ≤ s.elements.capacity
-    -- while an element is open there is nothing to redo
+    -- while an element is open, nothing can be redone
     pub apart : is_some s.open_element ≡ true → s.kept ≡ s.done

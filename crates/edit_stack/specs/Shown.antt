@@ -6,7 +6,7 @@ use Rattle.undo_rules.specs.Stack.{Step, Stack}
 
 pub record Shown (C : Type 0) : Type 0 where
   pub stack : Stack C
-  -- for how many pushes there is room
+  -- the number of pushes for which there is room
   pub spare : ℕ
 
 abbrev pub tag_code : Coded Tag

@@ -7,12 +7,12 @@ ghost use Rattle.edit_stack.specs.Element.{step_of};
 use paged_list::PagedList;
 use undo_rules::Tag;
 
-/// The changes that one undo takes back, at least one, the alternative versions before and after them, and what they share
-/// with steps of other documents that were made at once.
+/// One step of undo: its changes, at least one, the alternative versions before and after them, and an optional tag, shared with the steps
+/// of other documents that were made together with it.
 #[derive(Drop)]
 pub struct Element<C> {
     pub(crate) first: C,
-    /// The changes behind the first.
+    /// The changes after the first.
     pub(crate) more: PagedList<C>,
     pub(crate) alt_before: u64,
     pub(crate) alt_after: u64,
@@ -20,14 +20,14 @@ pub struct Element<C> {
 }
 
 impl<C> Element<C> {
-    /// How many changes there are.
+    /// Returns the number of changes.
     pub fn len(&self) -> usize
         ensures { result ≡ length (step_of self.now).changes }
     {
         1 + self.more.len()
     }
 
-    /// A change, by its number in the order in which they were made, from 0 on.
+    /// Returns a change by its index from 0, in the order in which the changes were made.
     pub fn change(&self, at: usize) -> &C
         requires { at < length (step_of self.now).changes }
         ensures { slice_get (step_of self.now).changes at ≡ Some result.now }
@@ -38,28 +38,28 @@ impl<C> Element<C> {
         self.more.get(at - 1)
     }
 
-    /// What the alternative version was before the first of them.
+    /// Returns the alternative version before the first change.
     pub fn alt_before(&self) -> u64
         ensures { result ≡ (step_of self.now).alt_before }
     {
         self.alt_before
     }
 
-    /// What the alternative version was after the last of them.
+    /// Returns the alternative version after the last change.
     pub fn alt_after(&self) -> u64
         ensures { result ≡ (step_of self.now).alt_after }
     {
         self.alt_after
     }
 
-    /// The tag, where it has one.
+    /// Returns the tag, if any.
     pub fn tag(&self) -> Option<Tag>
         ensures { result ≡ (step_of self.now).tag }
     {
         self.tag
     }
 
-    /// Whether it has this tag.
+    /// Returns whether it has this tag.
     pub(crate) fn has(&self, tag: Tag) -> bool
         ensures { result ≡ has_tag tag (step_of self.now) }
     {
@@ -69,7 +69,7 @@ impl<C> Element<C> {
         }
     }
 
-    /// Takes this tag off, where it has it.
+    /// Removes the tag if it is this one.
     pub(crate) fn untag(&mut self, tag: Tag)
         ensures step { step_of self.new ≡ without_tag tag (step_of self.old) }
         ensures room { self.new.more ≡ self.old.more }
@@ -78,7 +78,7 @@ impl<C> Element<C> {
             self.tag = None;
         }
     }
-    /// Takes its tag off where that is one of this document and `count` is not 0. Answers how many tags are still to be taken off.
+    /// Removes the tag if `doc` is a member of it and `count` is not 0. Returns how many tags are still to be removed.
     pub(crate) fn untag_of(&mut self, doc: u64, count: u64) -> u64
         requires { doc < 64 }
         ensures step { step_of self.new ∷ [] ≡ untagged_last doc count (step_of self.old ∷ []) }
@@ -92,7 +92,7 @@ impl<C> Element<C> {
         count - 1
     }
 
-    // Whether it has a tag of this document.
+    // Returns whether it has a tag of which `doc` is a member.
     fn names(&self, doc: u64) -> bool
         requires { doc < 64 }
         ensures { result ≡ passes (is_member doc) (step_of self.now).tag }

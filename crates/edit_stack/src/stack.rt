@@ -1,4 +1,4 @@
-//! The two lists.
+//! The undo and the redo list.
 
 ghost use Rattle.std.specs.Prelude.{◌≡◌, ◌+◌, ◌-◌, ◌^◌, ◌<◌, ◌≤◌, ◌++◌, ◌∷◌, [], is_some, length, map, take, slice_get, OnOk, option_map};
 ghost use Rattle.std.specs.List.{list_any};
@@ -14,19 +14,19 @@ use std::alloc::{AllocError, Global};
 use std::marker::Model;
 use undo_rules::Tag;
 
-/// What can be undone and redone. Only `reserve` takes memory.
+/// The steps that can be undone and redone. Only `reserve` allocates.
 ///
-/// An undo and a redo move no element: they move the place in one list up to which its elements are done. What can be
-/// redone no longer stays behind those that can, until others take its place, and each push lets one of it go: so no
-/// push pays for all that was undone before it.
+/// An undo or a redo moves no element: both lists are in one, and only the boundary between them moves. Elements that can no longer be
+/// redone stay behind the others until they are overwritten; each push drops one of them, so that no push pays for all that was undone
+/// before it.
 #[derive(Drop)]
 pub struct EditStack<C> {
     alloc: Global,
-    /// The closed elements, in the order in which they were made, and those that can be had no more.
+    /// The closed elements in the order in which they were made, then those that can no longer be redone.
     elements: PagedList<Element<C>>,
-    /// So many of the elements are done. The next to undo is the last of these.
+    /// The number of elements that can be undone. The next to undo is the last of these.
     done: usize,
-    /// So many are done or can be redone. The next to redo is the first that is not done.
+    /// The number of elements that can be undone or redone. The next to redo is the one at index `done`.
     kept: usize,
     open_element: Option<Element<C>>,
 }
@@ -58,7 +58,7 @@ impl<C: Drop> EditStack<C> {
         }
     }
 
-    /// Makes room for one push. An error leaves the lists as they were, and room that was there stays.
+    /// Makes room for one push. On an error the lists are unchanged, and the room is not less.
     pub fn reserve(&mut self) -> Result<(), AllocError>
         ensures room { OnOk result (0 < self.new.spare) }
         ensures stack { self.new.stack ≡ self.old.stack }
@@ -71,8 +71,8 @@ impl<C: Drop> EditStack<C> {
         Ok(())
     }
 
-    /// A change was made, from one alternative version to another. It joins the open element or begins one, and what
-    /// was undone can no longer be redone.
+    /// Records a change from one alternative version to another. It joins the open element or begins one, and what was undone can no longer
+    /// be redone.
     pub fn push(&mut self, change: C, alt_before: u64, alt_after: u64)
         requires { 0 < self.old.spare }
         ensures { self.new.stack ≡ pushed self.old.stack change alt_before alt_after }
@@ -96,7 +96,7 @@ impl<C: Drop> EditStack<C> {
         }
     }
 
-    /// The next change begins an element.
+    /// Closes the open element, if any, so that the next change begins a new one.
     pub fn stop(&mut self)
         ensures stack { self.new.stack ≡ stopped self.old.stack }
         ensures room { 0 < self.old.spare → 0 < self.new.spare }
@@ -108,7 +108,7 @@ impl<C: Drop> EditStack<C> {
         }
     }
 
-    /// What the next undo takes back.
+    /// Returns the element that the next undo reverts; None if there is none.
     #[tactic(auto, using(crate::proofs::Tags::next_undone))]
     pub fn undo_next(&self) -> Option<&Element<C>>
         ensures { option_map step_of (option_copied result) ≡ slice_get self.now.stack.undo 0 }
@@ -120,7 +120,7 @@ impl<C: Drop> EditStack<C> {
         }
     }
 
-    /// What the next redo makes again.
+    /// Returns the element that the next redo repeats; None if there is none.
     #[tactic(auto, using(crate::proofs::Tags::next_redone))]
     pub fn redo_next(&self) -> Option<&Element<C>>
         ensures { option_map step_of (option_copied result) ≡ slice_get self.now.stack.redo 0 }
@@ -131,7 +131,7 @@ impl<C: Drop> EditStack<C> {
         Some(self.elements.get(self.done))
     }
 
-    /// The element that was the next to undo is the next to redo now.
+    /// Records an undo: the next element to undo becomes the next to redo.
     pub fn undone(&mut self)
         requires { 0 < length self.old.stack.undo }
         ensures stack { self.new.stack ≡ undone self.old.stack }
@@ -146,7 +146,7 @@ impl<C: Drop> EditStack<C> {
         }
     }
 
-    /// The element that was the next to redo is the next to undo now.
+    /// Records a redo: the next element to redo becomes the next to undo.
     pub fn redone(&mut self)
         requires { 0 < length self.old.stack.redo }
         ensures stack { self.new.stack ≡ redone self.old.stack }
@@ -155,7 +155,7 @@ impl<C: Drop> EditStack<C> {
         self.done += 1;
     }
 
-    /// The step that was made last gets the tag.
+    /// Tags the next step to undo.
     pub fn tag_last(&mut self, tag: Tag)
         requires { 0 < length self.old.stack.undo }
         ensures stack { self.new.stack ≡ tagged self.old.stack tag }
@@ -167,7 +167,7 @@ impl<C: Drop> EditStack<C> {
         }
     }
 
-    /// Takes this tag off each step that has it.
+    /// Removes this tag from each step that has it.
     pub fn untag(&mut self, tag: Tag)
         ensures stack { self.new.stack ≡ untagged self.old.stack tag }
         ensures room { self.new.spare ≡ self.old.spare }
@@ -178,8 +178,8 @@ impl<C: Drop> EditStack<C> {
         untag_first(&mut self.elements, self.kept, tag);
     }
 
-    /// Takes the tag off the last `count` of the steps that have one of this document, or off all of these where there are fewer. No step
-    /// before them is looked at.
+    /// Removes the tags from the last `count` steps with a tag of which `doc` is a member, or from all such steps if there are fewer. No
+    /// step before them is read.
     pub fn untag_last(&mut self, doc: u64, count: u64)
         requires { doc < 64 }
         ensures stack { self.new.stack ≡ with_steps self.old.stack
@@ -190,7 +190,7 @@ impl<C: Drop> EditStack<C> {
         untag_closed(&mut self.elements, self.kept, doc, left);
     }
 
-    /// Whether a step has this tag.
+    /// Returns whether a step has this tag.
     pub fn holds(&self, tag: Tag) -> bool
         ensures { result ≡ holds self.now.stack tag }
     {
@@ -200,7 +200,7 @@ impl<C: Drop> EditStack<C> {
         }
     }
 
-    /// How many steps can be undone, and how many can be redone.
+    /// Returns the number of steps that can be undone, and of those that can be redone.
     pub fn counts(&self) -> (u64, u64)
         ensures undo { result.0 ≡ length self.now.stack.undo }
         ensures redo { result.1 ≡ length self.now.stack.redo }
@@ -211,8 +211,8 @@ impl<C: Drop> EditStack<C> {
         ((self.done + open) as u64, (self.kept - self.done) as u64)
     }
 
-    /// The tag of the step of this number, counted from 0 in the order in which the steps were made: first those that can be
-    /// undone, then those that can be redone. None where that step has no tag.
+    /// Returns the tag of the step of index `k`, counted from 0 in the order in which the steps were made: first those that can be undone,
+    /// then those that can be redone. None if that step has no tag.
     pub fn tag_at(&self, k: u64) -> Option<Tag>
         requires { k < length (all_steps self.now.stack) }
         ensures { result ≡ tag_at self.now.stack k }
@@ -225,7 +225,7 @@ impl<C: Drop> EditStack<C> {
     }
 }
 
-/// Takes the tag off the first `kept` elements.
+/// Removes the tag from the first `kept` elements.
 fn untag_first<C: Drop>(elements: &mut PagedList<Element<C>>, kept: usize, tag: Tag)
     requires { kept ≤ length elements.old.items }
     ensures items { map step_of (take kept elements.new.items)
@@ -238,7 +238,7 @@ fn untag_first<C: Drop>(elements: &mut PagedList<Element<C>>, kept: usize, tag: 
     }
 }
 
-/// Takes the tag off an open element, as `Element::untag_of` does.
+/// Calls `Element::untag_of` on the open element, if any. Returns how many tags are still to be removed.
 fn untag_open<C: Drop>(open: &mut Option<Element<C>>, doc: u64, count: u64) -> u64
     requires { doc < 64 }
     ensures steps { opened open.new ≡ untagged_last doc count (opened open.old) }
@@ -252,7 +252,7 @@ fn untag_open<C: Drop>(open: &mut Option<Element<C>>, doc: u64, count: u64) -> u
     }
 }
 
-/// Takes the tag off the last `count` of the first `kept` elements that have one of this document.
+/// Removes the tags from the last `count` of those of the first `kept` elements that have a tag of which `doc` is a member.
 fn untag_closed<C: Drop>(elements: &mut PagedList<Element<C>>, kept: usize, doc: u64, count: u64)
     requires kept { kept ≤ length elements.old.items }
     requires doc { doc < 64 }
@@ -269,7 +269,7 @@ fn untag_closed<C: Drop>(elements: &mut PagedList<Element<C>>, kept: usize, doc:
     }
 }
 
-/// Whether one of the first `kept` elements has the tag.
+/// Returns whether one of the first `kept` elements has the tag.
 fn has_first<C: Drop>(elements: &PagedList<Element<C>>, kept: usize, tag: Tag) -> bool
     requires { kept ≤ length elements.now.items }
     ensures { result ≡ list_any (has_tag tag) (map step_of (take kept elements.now.items)) }
@@ -282,7 +282,7 @@ fn has_first<C: Drop>(elements: &PagedList<Element<C>>, kept: usize, tag: Tag) -
     false
 }
 
-/// Puts the element behind the first `at`. What stood there goes.
+/// Puts the element at index `at`, in place of what is there, if anything.
 fn put_at<C: Drop>(elements: &mut PagedList<Element<C>>, at: usize, element: Element<C>)
     requires place { at ≤ length elements.old.items }
     requires room { at < elements.old.capacity }
@@ -298,7 +298,7 @@ fn put_at<C: Drop>(elements: &mut PagedList<Element<C>>, at: usize, element: Ele
     }
 }
 
-/// Lets one go that is not among the first `kept`.
+/// Drops the last element unless it is among the first `kept`.
 fn let_one_go<C: Drop>(elements: &mut PagedList<Element<C>>, kept: usize)
     requires { kept ≤ length elements.old.items }
     ensures items { take kept elements.new.items ≡ take kept elements.old.items }

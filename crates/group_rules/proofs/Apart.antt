@@ -1,4 +1,4 @@
--- A call on documents that are outside a set leaves the documents of the set, where no tag that it loses or goes has a member there.
+-- A call on documents outside a set leaves the documents of the set unchanged, if no tag that it loses or follows has a member in the set.
 use Rattle.std.proofs.Common.{◌≡◌, ℕ, ◌==◌, Bool, true, false, if◌then◌else◌, List, [], ◌∷◌, length, All, refl, sym, ap, ◌∙◌, eqb-true, true≢false}
 use Rattle.std.proofs.lemmas.Bool.{false_from_ne_true}
 use Rattle.std.proofs.lemmas.List.Elements.{All-nil, All-head, All-tail, All-append, All-weaker}

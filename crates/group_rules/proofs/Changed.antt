@@ -25,7 +25,7 @@ accepted_move P false new f same h = let is : new ≡ f = cc in subst P is h
 
 -- ---- a change
 
--- What could be redone goes, and what can be undone has the tags that it had.
+-- The redo steps are removed, and the undo steps keep their tags.
 pub record IsChanged (old new : FlatState) : Type 0 where
   pub undo : tags_of new.history.undo ≡ tags_of old.history.undo
   pub redo : new.history.redo ≡ []

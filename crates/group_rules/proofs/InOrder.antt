@@ -10,7 +10,7 @@ use Rattle.group_rules.proofs.Times.{same_tag, times-append, times_same, times_o
 IsOf-later : (old new : ℕ → ℕ) (n : ℕ) (tag : Tag) → IsOf old n tag → old tag.least ≤ new tag.least → IsOf new n tag
 IsOf-later old new n tag is later = record { member = is.member; there = is.there; least = is.least; known = omega (arith, is.known) }
 
--- a tag of two documents stands in both as often
+-- a tag of two documents occurs equally often in both
 pub same_times : (tags : ℕ → List Tag) (n k : ℕ) (tag : Tag) → InOneOrder tags → n < DOC_COUNT → k < DOC_COUNT → is_member n tag ≡ true
     → is_member k tag ≡ true → times tag (tags n) ≡ times tag (tags k)
 same_times tags n k tag order below_n below_k of_n of_k =
@@ -134,7 +134,7 @@ pub AreInOrder-put : (tag : Tag) (undos redos : ℕ → List Tag) (versions vers
 AreInOrder-put tag undos redos versions versions' a later new is =
     record { own = own; once = once; undo = InOneOrder-put tag undos a.undo; redo = a.redo }
   where
-    -- the tag stood nowhere
+    -- the tag occurred in no document
     none : (n : ℕ) → n < DOC_COUNT → times tag (undos n) + times tag (redos n) ≡ 0
     none n below =
         ⊎_elim (λ there. let was = a.own n tag below there in absurd (omega (arith, new, was.known))) (λ no. omega (arith, no))

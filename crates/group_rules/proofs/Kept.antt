@@ -1,4 +1,4 @@
--- What holds of the tags in each document of a group before a call holds of those after it, and of the tag of a joint edit.
+-- A property of the tags in each document of a group is kept by each call, if it holds for the tag of a joint edit.
 use Rattle.std.proofs.Common.{◌≡◌, ℕ, Bool, true, false, if◌then◌else◌, List, [], ◌∷◌, Option, Some, None, IfSome, Result, Ok, Err, All, refl, sym, subst}
 use Rattle.std.proofs.lemmas.List.Elements.{All-head}
 use Rattle.text_rules.specs.declared.Op.{Op}
@@ -16,7 +16,7 @@ use Rattle.group_rules.proofs.Losing.{lost_in, without_tags-is}
 use Rattle.group_rules.proofs.Members.{is_named, named_batch}
 use Rattle.group_rules.proofs.Places.{with_doc_kept, each_kept}
 
--- the tags in each document are as P says of its number
+-- P holds for each document's number and the tags in this document
 abbrev pub AllTagsIn : (ℕ → Tag → Type 0) → FlatGroup → Type 0
 AllTagsIn P g = (n : ℕ) → AllTags (P n) (doc_in g n).history
 
@@ -67,7 +67,7 @@ AllTagsIn-joined P g batches h tag =
 
 -- ---- undo and redo
 
--- a way on which no tag is made, and whose next step is one of the document
+-- undo or redo: it makes no tag, and its next step is one of the document
 pub record IsKeeping (going : Going) : Type 1 where
   pub kept : (P : Tag → Type 0) (f new : FlatState) → going.rule f ≡ Ok (Some new) → AllTags P f.history → AllTags P new.history
   pub front : (P : Tag → Type 0) (f : FlatState) → AllTags P f.history → IfSome (front_tag (going.steps f)) P

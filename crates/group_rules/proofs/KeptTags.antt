@@ -1,4 +1,4 @@
--- What holds of the tags of a document's steps before a call holds of those after it: no rule of one document makes a tag.
+-- A property of the tags of a document's steps is kept by each call: no rule of one document makes a tag.
 use Rattle.std.proofs.Common.{◌≡◌, ℕ, ◌+◌, ◌-◌, not, ◌<◌, arith, map, reverse, Bool, nat_lt, List, [], ◌∷◌, ◌++◌, length, Option, Some, None, IfSome, option_to_list, Ok, All, sym, subst}
 use Rattle.std.proofs.lemmas.List.{length-reverse, reverse-reverse, get_or-reverse, length-append, get_or_append_left, get_or-append-add}
 use Rattle.std.proofs.lemmas.List.Elements.{All-nil, All-cons, All-head, All-tail, All-append, All-filter}
@@ -19,11 +19,11 @@ use Rattle.group_rules.proofs.Losing.{losing, losing_all, tags_of-losing}
 
 -- ---- steps
 
--- the step's tag, if it has one, is as P says
+-- P holds for the step's tag, if it has one
 abbrev pub IsFor : (Tag → Type 0) → Step FlatChange → Type 0
 IsFor P step = IfSome step.tag P
 
--- so are the tags of all steps
+-- P holds for the tags of all steps
 pub record AllTags (P : Tag → Type 0) (s : Stack FlatChange) : Type 0 where
   pub undo : All (IsFor P) s.undo
   pub redo : All (IsFor P) s.redo

@@ -1,4 +1,4 @@
--- Where the tags of the last steps of a document are lost, those that go in another one are the last of those that the two share.
+-- If the tags of the last steps of a document are lost, the tags that another document loses are the last of those that the two share.
 use Rattle.std.proofs.Common.{◌≡◌, ℕ, suc, ◌+◌, ◌<◌, ◌≤◌, ◌&&◌, ◌||◌, not, nat_lt, arith, Bool, true, false, if◌then◌else◌, List, [], ◌∷◌, ◌++◌, length, take, drop, map, reverse, filter, Option, Some, None, option_to_list, refl, sym, ap, ap₂, All, subst, ◌∙◌, ⊎_elim}
 use Rattle.std.specs.List.{list_any, flat_map}
 use Rattle.std.proofs.lemmas.Bool.{true≢false, cases_lt, lt-ltb, le-ltb, ltb-true, false_from_ne_true}
@@ -34,7 +34,7 @@ tagged_count-is n (step ∷ steps) = by step.tag _ (tagged_count-is n steps)
     by None xs same = same
     by (Some tag) xs same = one (is_member n tag) tag xs (filter (is_member n) (tags_of steps)) same
 
--- Of these tags, in their order, the last are lost, c at most. The others are none, or c are lost.
+-- Of these tags, in their order, the last at most c are lost. Either no others are left, or exactly c are lost.
 record AreSplit (lose : Tag → Bool) (c : ℕ) (tags front last : List Tag) : Type 0 where
   parts : tags ≡ front ++ last
   few : length last ≤ c

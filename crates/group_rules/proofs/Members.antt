@@ -1,4 +1,4 @@
--- Which documents are members of the tag of a joint edit: those that its batches are for.
+-- The members of the tag of a joint edit are the documents of its batches.
 use Rattle.std.proofs.Common.{◌≡◌, ℕ, zero, suc, ◌+◌, ◌/◌, ◌^◌, ◌==◌, ◌||◌, ◌≢◌, ◌<◌, ◌≤◌, get_or, arith, min, nat_le, Bool, true, false, if◌then◌else◌, List, [], ◌∷◌, Some, None, All, refl, sym, ap, subst, ◌∙◌, eqb-true, pow-suc, ⊎_elim}
 use Rattle.std.proofs.lemmas.Bool.{or_parts, eqb-false, eq-eqb, cases_eq, true_from_ne_false}
 use Rattle.std.proofs.lemmas.List.Folds.{list_any_at}
@@ -74,7 +74,7 @@ batch_for_none (b ∷ batches) n none =
 pub named_batch : (batches : List FlatBatch) (n : ℕ) (ops : List Op) → batch_for n batches ≡ Some ops → is_named n batches ≡ true
 named_batch batches n ops found = true_from_ne_false (is_named n batches) (λ none. let no = batch_for_none batches n none in absurd cc)
 
--- what holds of each document that a batch is for holds of one that is named
+-- a property of all documents with a batch holds for each named document
 pub named_kept : (P : ℕ → Type 0) (batches : List FlatBatch) (n : ℕ) → All P (docs_of batches) → is_named n batches ≡ true → P n
 named_kept P [] n h named = absurd cc
 named_kept P (b ∷ batches) n h named =
@@ -86,7 +86,7 @@ named_kept P (b ∷ batches) n h named =
 
 -- ---- the least of them
 
--- what holds of each document that a batch is for, and of the number after the last one, holds of the least
+-- a property of all documents with a batch, and of `DOC_COUNT`, holds for the least
 pub least_kept : (P : ℕ → Type 0) (batches : List FlatBatch) → P DOC_COUNT → All P (docs_of batches) → P (least_of batches)
 least_kept P [] past h = past
 least_kept P (b ∷ batches) past h =

@@ -6,7 +6,7 @@ use Rattle.std.proofs.lemmas.Option.{unwrap_or-slice_get}
 use Rattle.document_rules.specs.Document.{FlatState, empty_document}
 use Rattle.group_rules.specs.Group.{FlatGroup, doc_in, with_doc, each_from}
 
--- no document stands behind the last one
+-- there is no document behind the last one
 pub doc_in_past : (g : FlatGroup) (n : ℕ) → length g ≤ n → doc_in g n ≡ empty_document
 doc_in_past g n past = unwrap_or-slice_get g n empty_document ∙ get_or_past g n empty_document past
 
@@ -35,7 +35,7 @@ doc_in-with_same g n f inside = unwrap_or-slice_get (with_doc g n f) n empty_doc
 pub doc_in-with_other : (g : FlatGroup) (n k : ℕ) (f : FlatState) → k ≢ n → doc_in (with_doc g n f) k ≡ doc_in g k
 doc_in-with_other g n k f other = read_other empty_document g n k f other
 
--- what holds of each document and of the new one holds of each afterwards
+-- a property of each document and of the new one holds for each document after the replacement
 pub with_doc_kept : (P : ℕ → FlatState → Type 0) (g : FlatGroup) (n : ℕ) (f : FlatState) → ((k : ℕ) → P k (doc_in g k)) → P n f
     → (k : ℕ) → P k (doc_in (with_doc g n f) k)
 with_doc_kept P [] n f h new k = h k
@@ -59,7 +59,7 @@ each_at n (suc k) m change (f ∷ g) at inside = each_at (suc n) k m change g (o
 pub doc_in-each : (change : ℕ → FlatState → FlatState) (g : FlatGroup) (k : ℕ) → k < length g → doc_in (each_from 0 change g) k ≡ change k (doc_in g k)
 doc_in-each change g k inside = each_at 0 k k change g (omega arith) inside
 
--- no document stands behind the last one, after the change either
+-- there is no document behind the last one after the change either
 pub each_past : (change : ℕ → FlatState → FlatState) (g : FlatGroup) (k : ℕ) → length g ≤ k → doc_in (each_from 0 change g) k ≡ doc_in g k
 each_past change g k past =
     let long = length-each_from 0 change g in doc_in_past (each_from 0 change g) k (omega arith) ∙ sym (doc_in_past g k past)
@@ -69,7 +69,7 @@ pub doc_in-each_left : (change : ℕ → FlatState → FlatState) (g : FlatGroup
     → doc_in (each_from 0 change g) k ≡ doc_in g k
 doc_in-each_left change g k left = ⊎_elim (λ inside. doc_in-each change g k inside ∙ left) (λ past. each_past change g k past) (cases_lt k (length g))
 
--- what the change keeps of each document
+-- a property of each document that the change keeps
 pub each_kept : (P : ℕ → FlatState → Type 0) (change : ℕ → FlatState → FlatState) (g : FlatGroup) → ((k : ℕ) → P k (doc_in g k))
     → ((k : ℕ) → P k (doc_in g k) → P k (change k (doc_in g k))) → (k : ℕ) → P k (doc_in (each_from 0 change g) k)
 each_kept P change g h kept k =

@@ -1,4 +1,4 @@
--- Each call on one document leaves what documents share in order.
+-- Each call on one document keeps the tags that documents share in order.
 use Rattle.std.proofs.Common.{◌≡◌, ℕ, zero, suc, ◌+◌, ◌<◌, ◌≤◌, ◌≢◌, not, nat_lt, arith, Bool, true, false, List, [], length, filter, replicate, Option, Some, None, Result, Ok, Err, refl, sym, ap, subst, ◌∙◌, ⊎_elim, le_refl}
 use Rattle.std.proofs.lemmas.Bool.{cases_eq, lt-ltb, le-ltb}
 use Rattle.unit_text.specs.declared.kind.Kind.{Kind}

@@ -1,4 +1,4 @@
--- An undo or a redo leaves what documents share in order.
+-- An undo or a redo keeps the tags that documents share in order.
 use Rattle.std.proofs.Common.{◌≡◌, ℕ, ◌<◌, ◌≤◌, arith, Bool, true, false, if◌then◌else◌, List, ◌∷◌, length, Option, Some, None, Ok, refl, sym, subst, le_refl}
 use Rattle.undo_rules.specs.declared.Tag.{Tag}
 use Rattle.undo_rules.specs.Stack.{Step}
@@ -15,7 +15,7 @@ use Rattle.group_rules.proofs.Shared.{tags_by, AreInOrder-with_doc}
 use Rattle.group_rules.proofs.Together.{accepted_gone, accepted_together, members_in_time, members_in_front}
 
 module _ (going : Going) (to : FlatState → List (Step FlatChange)) (moves : IsMoving going to) where
-  -- the document goes the step of this tag, if it is one of its documents
+  -- the document takes the step of this tag, if it is a member
   record Goes (member : Bool) (tag : Tag) (old new : FlatState) : Type 0 where
     taken : tags_of (going.steps old) ≡ (if member then tag ∷ tags_of (going.steps new) else tags_of (going.steps new))
     put : tags_of (to new) ≡ (if member then tag ∷ tags_of (to old) else tags_of (to old))

@@ -1,4 +1,4 @@
--- A joint edit leaves what documents share in order.
+-- A joint edit keeps the tags that documents share in order.
 use Rattle.std.proofs.Common.{◌≡◌, ℕ, ◌<◌, ◌≤◌, ◌==◌, ◌||◌, arith, Bool, true, false, if◌then◌else◌, List, [], ◌∷◌, ◌++◌, length, filter, Ok, All, refl, sym, ap, subst, ◌∙◌, eqb-true, ⊎_elim, le_refl}
 use Rattle.std.proofs.lemmas.Bool.{cases_lt}
 use Rattle.std.proofs.lemmas.List.Elements.{All-head, All-tail, All-weaker}
@@ -17,7 +17,7 @@ use Rattle.group_rules.proofs.Places.{doc_in-each}
 use Rattle.group_rules.proofs.Shared.{left, filter_left, filter_lost, other_less}
 use Rattle.group_rules.proofs.Together.{AreAccepted, accepted_batches, accepted_joint, all_numbered, joined_named, joined_all_go_on}
 
--- how often a tag is lost
+-- the number of occurrences of a tag that are lost
 lost_nowhere : (g : FlatGroup) (batches : List FlatBatch) (tag : Tag) → All (λ n. times tag (redo_tags g n) ≡ 0) (docs_of batches)
     → times tag (lost_by_joint g batches) ≡ 0
 lost_nowhere g [] tag none = refl

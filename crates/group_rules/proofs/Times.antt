@@ -1,4 +1,4 @@
--- How often a tag stands among others, and what a filter leaves of them.
+-- The number of occurrences of a tag in a list, and in a filtered list.
 use Rattle.std.proofs.Common.{◌≡◌, ℕ, suc, ◌+◌, ◌<◌, ◌≤◌, ◌==◌, ◌&&◌, arith, Bool, true, false, if◌then◌else◌, List, [], ◌∷◌, ◌++◌, length, filter, refl, sym, ap, ap₂, subst, ◌∙◌, eqb-true}
 use Rattle.std.proofs.lemmas.Bool.{and_parts, eq-eqb, true_from_ne_false}
 use Rattle.std.proofs.lemmas.List.{length-append}
@@ -53,7 +53,7 @@ times_head tag tags = omega (arith, times_same tag tag tags (is_same_tag_self ta
 pub times_tail : (tag x : Tag) (tags : List Tag) → times tag tags ≤ times tag (x ∷ tags)
 times_tail tag x tags = grind (arith, times-cons tag x tags)
 
--- what stands in a list is its first one or stands behind it
+-- an item of a list is the first one or one of the rest
 pub times_cases : (P : Tag → Type 0) (x : Tag) (tags : List Tag) → P x → ((tag : Tag) → 0 < times tag tags → P tag)
     → (tag : Tag) → 0 < times tag (x ∷ tags) → P tag
 times_cases P x tags here later tag there = by (is_same_tag tag x) refl
@@ -62,7 +62,7 @@ times_cases P x tags here later tag there = by (is_same_tag tag x) refl
     by true e = subst P (sym (same_tag tag x e)) here
     by false e = later tag (omega (arith, there, times_other tag x tags e))
 
--- the filter leaves a tag that passes as often as it stood there
+-- a filter keeps all occurrences of a tag that passes it
 pub times-filter_in : (test : Tag → Bool) (tag : Tag) (tags : List Tag) → test tag ≡ true → times tag (filter test tags) ≡ times tag tags
 times-filter_in test tag [] pass = refl
 times-filter_in test tag (x ∷ tags) pass = grind (arith, times-cons, same_tag tag x, times-filter_in test tag tags pass)
@@ -71,7 +71,7 @@ times-filter_out : (test : Tag → Bool) (tag : Tag) (tags : List Tag) → test 
 times-filter_out test tag [] fail = refl
 times-filter_out test tag (x ∷ tags) fail = grind (arith, times-cons, same_tag tag x, times-filter_out test tag tags fail)
 
--- what a filter leaves passes
+-- a tag that a filter keeps passes it
 pub times_filter_passes : (test : Tag → Bool) (tag : Tag) (tags : List Tag) → 0 < times tag (filter test tags) → test tag ≡ true
 times_filter_passes test tag tags there =
     true_from_ne_false (test tag) (λ fail. omega (arith, there, times-filter_out test tag tags fail))
@@ -80,7 +80,7 @@ pub times-filter-le : (test : Tag → Bool) (tag : Tag) (tags : List Tag) → ti
 times-filter-le test tag [] = omega arith
 times-filter-le test tag (x ∷ tags) = grind (arith, times-cons, times-filter-le test tag tags)
 
--- two tests that say the same of each of the tags
+-- two tests that agree on each of the tags
 pub filter_same : (p q : Tag → Bool) (tags : List Tag) → ((tag : Tag) → 0 < times tag tags → p tag ≡ q tag) → filter p tags ≡ filter q tags
 filter_same p q [] same = refl
 filter_same p q (x ∷ tags) same =

@@ -1,5 +1,5 @@
--- A call on a group leaves all documents but those that it is for, and those that lose tags; and those that go on together all
--- make the next version.
+-- A call on a group changes only the documents that it applies to and those that lose tags; and all documents that advance
+-- together have the next version.
 use Rattle.std.proofs.Common.{◌≡◌, ℕ, zero, suc, ◌+◌, ◌<◌, ◌==◌, ◌&&◌, ◌||◌, not, arith, Bool, true, false, nat_le, nat_lt, if◌then◌else◌, List, [], ◌∷◌, length, get_or, Option, Some, None, Result, Ok, Err, All, refl, sym, ap, subst, ◌∙◌, eqb-true, true≢false, ⊎_elim}
 use Rattle.std.proofs.lemmas.Bool.{or_parts, and_parts, and_cases, cases_lt, eqb-false, ltb-true, ltb-false, leb-false, false_from_ne_true, not-false}
 use Rattle.std.proofs.lemmas.List.Elements.{All-nil, All-cons, All-head, All-tail}
@@ -127,7 +127,7 @@ all_numbered (n ∷ docs) good =
     let there = or_parts (nat_le DOC_COUNT n) (list_any (λ m. m == n) docs) parts.0 in
     All-cons (λ n. n < DOC_COUNT) n docs (leb-false DOC_COUNT n there.0) (all_numbered docs parts.1)
 
--- a document that is named has a batch, of which holds what holds of all
+-- a named document has a batch, for which each property of all batches holds
 named_batch_for : (P : ℕ → List Op → Type 0) (batches : List FlatBatch) (n : ℕ) → All (λ (b : FlatBatch). P b.doc b.ops) batches
     → named_by batches n ≡ true → (ops : List Op) × (batch_for n batches ≡ Some ops) × P n ops
 named_batch_for P [] n h named = absurd cc

@@ -49,7 +49,7 @@ edited_beside = after (group_edit two_edited 1 (op 2 2 (codes "z") ∷ []))
 another_step_comes_next_in_a_member : group_undo edited_beside 0 ≡ Err (joint 1)
 another_step_comes_next_in_a_member = refl
 
--- both are undone, and the second one is edited: the first one makes its step again alone
+-- both are undone, and the second one is edited: the first one redoes its step alone
 abbrev lost : FlatGroup
 lost = after (group_edit (moved (group_undo two_edited 0)) 1 (op 0 0 (codes "q") ∷ []))
 
@@ -62,7 +62,7 @@ no_document_of_this_number = refl
 a_document_named_twice : group_joint three (batch 0 [] ∷ batch 0 [] ∷ []) ≡ Err (plain unknown)
 a_document_named_twice = refl
 
--- the span of the second batch is looked at before the overlap in the first
+-- the span of the second batch is checked before the overlap in the first
 range_before_overlap : group_joint three (batch 0 (op 0 1 [] ∷ op 0 1 [] ∷ []) ∷ batch 1 (op 0 9 [] ∷ []) ∷ []) ≡ Err (plain range)
 range_before_overlap = refl
 

@@ -1,4 +1,4 @@
--- Undo and redo in a group: a step that several documents took at once is undone and made again in all of them at once.
+-- Undo and redo in a group: a joint step is undone and redone in all its documents at once.
 use Rattle.std.specs.Prelude.{ℕ, suc, Bool, false, ◌&&◌, ◌||◌, not, nat_le, if◌then◌else◌, List, [], ◌∷◌, Option, Some, None, Result, Ok, Err}
 use Rattle.undo_rules.specs.declared.Tag.{Tag}
 use Rattle.undo_rules.specs.Stack.{Step}
@@ -8,9 +8,9 @@ use Rattle.document_rules.specs.Document.{FlatChange, FlatState, greatest_versio
 use Rattle.group_rules.specs.Refusals.{GroupRefusal, plain, joint}
 use Rattle.group_rules.specs.Group.{FlatGroup, doc_in, with_doc, each_from}
 
--- a way on which steps are gone
+-- a direction of travel through the history: undo or redo
 pub record Going : Type 0 where
-  -- the steps that can be gone, the next one first
+  -- the steps that can be taken, the next one first
   pub steps : FlatState → List (Step FlatChange)
   pub rule : FlatState → Result (Option FlatState) FlatRefusal
 
@@ -33,12 +33,12 @@ is_last_version f = nat_le greatest_version f.version
 
 -- ---- refusals
 
--- a member of the tag, the first document having the number n, is in its last version
+-- a member of the tag is in its last version; n is the number of the first document of the list
 abbrev pub some_last_from : ℕ → Tag → FlatGroup → Bool
 some_last_from n tag [] = false
 some_last_from n tag (f ∷ g) = (is_member n tag && is_last_version f) || some_last_from (suc n) tag g
 
--- the least member that does not have the tag's step next
+-- the least member whose next step does not have the tag; n is the number of the first document of the list
 abbrev pub other_next_from : ℕ → Going → Tag → FlatGroup → Option ℕ
 other_next_from n going tag [] = None
 other_next_from n going tag (f ∷ g) =
@@ -48,9 +48,9 @@ abbrev pub unless_other : Option ℕ → FlatGroup → Result (Option FlatGroup)
 unless_other (Some n) new = Err (joint n)
 unless_other None new = Ok (Some new)
 
--- ---- what is done
+-- ---- the effect
 
--- the document after its step; as it was where there is none
+-- the document after its step; unchanged if there is no step or it is refused
 abbrev pub gone_or_same : FlatState → Result (Option FlatState) FlatRefusal → FlatState
 gone_or_same f (Ok (Some new)) = new
 gone_or_same f (Ok None) = f
@@ -63,7 +63,7 @@ abbrev pub go_together : Going → FlatGroup → Tag → Result (Option FlatGrou
 go_together going g tag =
     if some_last_from 0 tag g then Err (plain limit) else unless_other (other_next_from 0 going tag g) (all_gone going g tag)
 
--- the step of one document
+-- the step of document n alone
 abbrev pub gone_in : FlatGroup → ℕ → Result (Option FlatState) FlatRefusal → Result (Option FlatGroup) GroupRefusal
 gone_in g n (Err why) = Err (plain why)
 gone_in g n (Ok None) = Ok None
@@ -73,7 +73,7 @@ abbrev pub go_by : Going → FlatGroup → ℕ → Option Tag → Result (Option
 go_by going g n None = gone_in g n (going.rule (doc_in g n))
 go_by going g n (Some tag) = go_together going g tag
 
--- One step of the document of this number, and of all others that took it with it.
+-- takes the next step of document n, and of all other members if it is a joint step
 abbrev pub group_go : Going → FlatGroup → ℕ → Result (Option FlatGroup) GroupRefusal
 group_go going g n = go_by going g n (front_tag (going.steps (doc_in g n)))
 

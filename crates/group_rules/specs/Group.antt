@@ -1,4 +1,4 @@
--- The flat group: a flat document for each number, and what a change of one of them means to the others.
+-- The flat group: a flat document for each number, and the effect that a change of one document has on the others.
 use Rattle.std.specs.Prelude.{ℕ, suc, if◌then◌else◌, List, [], ◌∷◌, ◌++◌, replicate, slice_get, slice_set, unwrap_or, Option, Some, None, option_to_list, Result, Ok, Err}
 use Rattle.undo_rules.specs.declared.Tag.{Tag}
 use Rattle.undo_rules.specs.Stack.{Step}
@@ -18,39 +18,39 @@ FlatGroup = List FlatState
 abbrev pub new_group : FlatGroup
 new_group = replicate DOC_COUNT empty_document
 
--- the document of this number
+-- document n; an empty document if n is out of range
 abbrev pub doc_in : FlatGroup → ℕ → FlatState
 doc_in g n = unwrap_or (slice_get g n) empty_document
 
--- the group with another document of this number
+-- the group with document n replaced by f
 abbrev pub with_doc : FlatGroup → ℕ → FlatState → FlatGroup
 with_doc g n f = slice_set g n f
 
--- each document becomes another, by its number; the first one has the number n
+-- applies `change` to each document and its number; n is the number of the first document of the list
 abbrev pub each_from : ℕ → (ℕ → FlatState → FlatState) → FlatGroup → FlatGroup
 each_from n change [] = []
 each_from n change (f ∷ g) = change n f ∷ each_from (suc n) change g
 
--- ---- tags that are lost
+-- ---- lost tags
 
 -- the tags of these steps
 abbrev pub tags_of : List (Step FlatChange) → List Tag
 tags_of [] = []
 tags_of (step ∷ steps) = option_to_list step.tag ++ tags_of steps
 
--- A change of a document takes away what could be redone, and a new document in its place takes all steps.
+-- A change of a document removes its redo steps, and opening a new document in its place removes all steps.
 abbrev pub lost_by_change : FlatState → List Tag
 lost_by_change f = tags_of f.history.redo
 
 abbrev pub lost_by_open : FlatState → List Tag
 lost_by_open f = tags_of (all_steps f.history)
 
--- The step of a document is one alone where its tag was lost in another one.
+-- document n after these tags were lost in another document: its steps with these tags lose them
 abbrev pub without_tags : List Tag → ℕ → FlatState → FlatState
 without_tags [] n f = f
 without_tags (tag ∷ tags) n f = without_tags tags n (if is_member n tag then flat_untag f tag else f)
 
--- these tags were lost as the document of this number became another
+-- the group after document n became f, by which these tags were lost
 abbrev pub with_changed : FlatGroup → List Tag → ℕ → FlatState → FlatGroup
 with_changed g lost n f = with_doc (each_from 0 (without_tags lost) g) n f
 

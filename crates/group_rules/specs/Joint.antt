@@ -1,4 +1,4 @@
--- One batch in each of several documents, all or none.
+-- A joint edit: one batch in each of several documents, all or none.
 use Rattle.std.specs.Prelude.{ℕ, ◌+◌, ◌^◌, ◌==◌, ◌||◌, min, Bool, true, false, nat_le, if◌then◌else◌, List, [], ◌∷◌, map, sum_by, Option, Some, None, Result, Ok, Err}
 use Rattle.std.specs.List.{list_any, flat_map}
 use Rattle.undo_rules.specs.declared.Tag.{Tag}
@@ -11,7 +11,7 @@ use Rattle.group_rules.specs.declared.DocBatch.{DocBatch}
 use Rattle.group_rules.specs.Refusals.{GroupRefusal, plain}
 use Rattle.group_rules.specs.Group.{FlatGroup, doc_in, each_from, lost_by_change, without_tags}
 
--- a batch, and the number of the document that it is for
+-- a batch, and the number of the document that it applies to
 pub record FlatBatch : Type 0 where
   pub doc : ℕ
   pub ops : List Op
@@ -24,7 +24,7 @@ docs_of batches = map (λ (b : FlatBatch). b.doc) batches
 
 -- ---- refusals
 
--- one of these numbers is that of no document, or stands twice
+-- one of these numbers is out of range, or occurs twice
 abbrev pub names_badly : List ℕ → Bool
 names_badly [] = false
 names_badly (n ∷ docs) = nat_le DOC_COUNT n || list_any (λ m. m == n) docs || names_badly docs
@@ -44,7 +44,7 @@ is_refused_for why (Err other) = is_same_refusal why other
 abbrev pub some_refused : FlatRefusal → FlatGroup → List FlatBatch → Bool
 some_refused why g batches = list_any (λ (b : FlatBatch). is_refused_for why (flat_edit (doc_in g b.doc) b.ops)) batches
 
--- Each reason is looked for in all batches before the next one is.
+-- The reason for which the edit is refused. Each reason is checked for all batches before the next reason.
 abbrev pub joint_refusal : FlatGroup → List FlatBatch → Option FlatRefusal
 joint_refusal g batches =
     if names_badly (docs_of batches) then Some unknown else
@@ -52,9 +52,9 @@ joint_refusal g batches =
     (if some_refused overlap g batches then Some overlap else
     (if some_refused limit g batches then Some limit else None)))
 
--- ---- what is done
+-- ---- the effect
 
--- the set of the documents, and the least of them
+-- the set of the documents as a bit mask, and the least of them
 abbrev pub members_of : List FlatBatch → ℕ
 members_of batches = sum_by (λ (b : FlatBatch). 2 ^ b.doc) batches
 
@@ -69,22 +69,22 @@ tag_of g batches = record {
   members = members_of batches;
 }
 
--- the batch for the document of this number
+-- the batch for document n, if there is one
 abbrev pub batch_for : ℕ → List FlatBatch → Option (List Op)
 batch_for n [] = None
 batch_for n (b ∷ batches) = if b.doc == n then Some b.ops else batch_for n batches
 
--- the tags that the batches take away with what could be redone
+-- the tags that are lost with the redo steps of the edited documents
 abbrev pub lost_by_joint : FlatGroup → List FlatBatch → List Tag
 lost_by_joint g batches = flat_map (λ (b : FlatBatch). lost_by_change (doc_in g b.doc)) batches
 
--- the document after its batch, which is a step of its own and has the tag; as it was where the batch is refused
+-- the document after its batch, which is a step of its own with the tag; unchanged if it has no ops or is refused
 abbrev pub tagged_after : Tag → FlatState → Result (Option FlatState) FlatRefusal → FlatState
 tagged_after tag f (Ok (Some new)) = flat_tag new tag
 tagged_after tag f (Ok None) = f
 tagged_after tag f (Err why) = f
 
--- a document that a batch is for carries it out, and another one loses tags
+-- a document with a batch carries it out, and any other document loses tags
 abbrev pub joined_doc : Tag → List Tag → ℕ → FlatState → Option (List Op) → FlatState
 joined_doc tag lost n f (Some ops) = tagged_after tag f (edited_alone f ops)
 joined_doc tag lost n f None = without_tags lost n f

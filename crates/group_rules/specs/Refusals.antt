@@ -1,9 +1,9 @@
--- Why a call on several documents is refused.
+-- The reasons for which a call on several documents is refused.
 use Rattle.std.specs.Prelude.{ℕ}
 use Rattle.document_rules.specs.Refusals.{FlatRefusal}
 
 pub data GroupRefusal : Type 0 where
-  -- as a call on one document is
+  -- a reason for which a call on one document is refused
   plain : FlatRefusal → GroupRefusal
-  -- the step that comes next in the document of this number is another
+  -- the joint step is not the next step of the document with this number
   joint : ℕ → GroupRefusal

@@ -1,4 +1,4 @@
-//! What hides the units at the front.
+//! Finds what hides the first units.
 
 ghost use Rattle.std.specs.Prelude.{◌≡◌, Some};
 ghost use Rattle.hiding_rules.specs.Hidden.{one_unit, marked, quoted, hidden_in_string};
@@ -13,7 +13,7 @@ pub(crate) fn one_unit(behind: Within) -> Stretch
     Stretch { units: 1, behind }
 }
 
-/// The mark, if it stands there.
+/// Returns the stretch of the mark, if the units begin with it.
 pub(crate) fn marked(text: &Units, behind: Within, units: &[u16]) -> Option<Stretch>
     ensures { result ≡ marked (Some text.now) behind units.now }
 {
@@ -27,7 +27,7 @@ pub(crate) fn marked(text: &Units, behind: Within, units: &[u16]) -> Option<Stre
     })
 }
 
-/// One of the quotes, if one stands there.
+/// Returns the stretch of a quote, if the units begin with one.
 pub(crate) fn quoted(quotes: &[u16], units: &[u16]) -> Option<Stretch>
     ensures { result ≡ quoted quotes.now units.now }
 {
@@ -37,7 +37,7 @@ pub(crate) fn quoted(quotes: &[u16], units: &[u16]) -> Option<Stretch>
     }
 }
 
-/// In a string that this quote began.
+/// Returns the first stretch of the units, in a string that `quote` began.
 pub(crate) fn hidden_in_string(quote: u16, units: &[u16]) -> Stretch
     ensures { result ≡ hidden_in_string quote units.now }
 {

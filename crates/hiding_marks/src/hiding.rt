@@ -1,4 +1,4 @@
-//! Marks that were checked.
+//! Checked marks of comments and strings.
 
 ghost use Rattle.std.specs.Prelude.{◌≡◌, ◌↔◌, ◌<◌, ◌≤◌, true, false, IfSome, IfOk};
 ghost use Rattle.bracket_rules.specs.declared.TheConstants.{MOST_BRACKET_UNITS};
@@ -14,17 +14,17 @@ use std::marker::Model;
 use thiserror::Error;
 use unit_text::Units;
 
-/// Why no marks were made.
+/// The reason why marks are invalid.
 #[derive(Clone, Copy, PartialEq, Eq, Debug, Error)]
 pub enum HidingError {
-    /// A text is empty, has more than 32 units or a line break; or there are more than 8 quotes,
-    /// one is a line break, a backslash or a surrogate, or two are equal.
+    /// A text is empty, has more than 32 units or contains a line break; or there are more than 8 quotes, a quote is a
+    /// line break, a backslash or a surrogate, or two quotes are equal.
     #[error("these are no marks of comments and strings")]
     BadMarks,
 }
 
-/// What begins and ends comments and strings: a text that begins a line comment, two that begin
-/// and end a block comment, and units that begin and end a string.
+/// The marks of comments and strings: a text that begins a line comment, two texts that begin and end a block comment,
+/// and units that begin and end a string.
 #[derive(Drop)]
 pub struct Hiding {
     line: Option<Units>,
@@ -44,7 +44,7 @@ impl Model for Hiding {
 }
 
 impl Hiding {
-    /// No marks, which hide nothing.
+    /// Returns no marks, which hide nothing.
     pub fn none() -> Hiding
         ensures { result ≡ no_marks }
     {
@@ -55,7 +55,7 @@ impl Hiding {
         }
     }
 
-    /// These marks. They are kept as they are, so no memory is wanted.
+    /// Checks the marks and takes them over. Fails with `BadMarks` if they are invalid. Allocates no memory.
     pub fn new(
         line: Option<Units>,
         block: Option<(Units, Units)>,
@@ -76,29 +76,29 @@ impl Hiding {
         })
     }
 
-    /// Whether there are no marks.
+    /// Returns whether there are no marks.
     pub fn is_none(&self) -> bool
         ensures { result ≡ is_none self.now }
     {
         self.line.is_none() && self.block.is_none() && self.quotes.is_empty()
     }
 
-    /// Whether there are marks of a block comment. Where there are none, each line begins in code.
+    /// Returns whether there are marks of a block comment. Without them each line begins in code.
     pub fn has_block(&self) -> bool
         ensures { result ≡ has_block self.now }
     {
         self.block.is_some()
     }
 
-    /// The stretch at the front of these units that no bracket stands in, at a place within this.
-    /// None in code, where no mark stands there.
+    /// Returns the stretch at the start of `units` that holds no bracket; `within` says what the start lies in. None if
+    /// that is code and no mark begins there.
     pub fn hidden(&self, within: Within, units: &[u16]) -> Option<Stretch>
         ensures stretch { result ≡ hidden self.now within units.now }
         ensures some { IfSome result (λ s. 0 < s.units) }
         ensures few { IfSome result (λ s. s.units ≤ MOST_BRACKET_UNITS) }
         ensures marks { are_marks self.now ≡ true }
     {
-        // What it holds are marks.
+        // The invariant shows that the marks are valid.
         let _quotes = &self.quotes;
         match within {
             Within::State(LineState::Code) => self.hidden_in_code(units),

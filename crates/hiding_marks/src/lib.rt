@@ -1,5 +1,5 @@
-//! The marks of a document that hide brackets: checked once, and then asked what they hide at the
-//! front of some units.
+//! The marks of a document that hide brackets. They are checked once, and then find what is hidden at the start of some
+//! units.
 #![tactic(auto)]
 
 mod hidden;

@@ -1,4 +1,4 @@
-//! Which marks there may be.
+//! The rules for valid marks.
 
 ghost use Rattle.std.specs.Prelude.{◌≡◌, ◌==◌};
 ghost use Rattle.std.specs.List.{list_all, list_any};
@@ -26,7 +26,7 @@ pub(crate) fn has_block_texts(block: &Option<(Units, Units)>) -> bool
     }
 }
 
-/// Whether these are at most 8, all of them distinct and none a line break, a backslash or a surrogate.
+/// Returns whether these are at most 8 units, all of them distinct and none a line break, a backslash or a surrogate.
 pub(crate) fn are_quotes(quotes: &[u16]) -> bool
     ensures { result ≡ are_quotes quotes.now }
 {
@@ -56,7 +56,7 @@ fn differ(quotes: &[u16]) -> bool
     true
 }
 
-/// Whether the unit is one of these.
+/// Returns whether the unit is one of `units`.
 pub(crate) fn is_one_of(units: &[u16], unit: u16) -> bool
     ensures { result ≡ list_any (λ u. unit == u) units.now }
 {

@@ -1,4 +1,4 @@
-//! Which texts may be brackets, or marks.
+//! The texts that may be brackets or marks.
 
 ghost use Rattle.std.specs.Prelude.{◌≡◌};
 ghost use Rattle.std.specs.List.{list_all};
@@ -7,7 +7,7 @@ ghost use Rattle.bracket_rules.specs.Table.{is_in_line, is_bracket_text};
 use bracket_rules::MOST_BRACKET_UNITS;
 use unit_text::{CARRIAGE_RETURN, LINE_FEED, Units};
 
-/// Whether the text has 1 to 32 units without CR or LF.
+/// Returns whether the text has 1 to 32 units without CR or LF.
 pub fn is_bracket_text(text: &Units) -> bool
     ensures { result ≡ is_bracket_text text.now }
 {

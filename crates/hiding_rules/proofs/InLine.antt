@@ -1,4 +1,4 @@
--- The tokens of a line that begins in any state stand in order in the line.
+-- The tokens of a line that begins in any state are in order within the line.
 use Rattle.std.proofs.Common.{◌≡◌, ℕ, zero, suc, ◌+◌, ◌-◌, ◌<◌, ◌≤◌, true, Option, Some, None, IfSome, List, [], ◌∷◌, ◌++◌, length, refl, arith}
 use Rattle.std.specs.Option.{option_to_list}
 use Rattle.bracket_rules.specs.declared.Token.{Token}
@@ -11,7 +11,7 @@ use Rattle.hiding_rules.specs.declared.Within.TheVariants.{State}
 use Rattle.hiding_rules.specs.declared.Stretch.{Stretch}
 use Rattle.hiding_rules.specs.Hidden.{Scanner, hidden, Front, front_of, front, scanned_from, hidden_scan}
 
--- what stands at the front, if it is a token, is one at place `at` of at most so many units, and takes up its units
+-- if the front is a token, it is at `at`, has at most `most` units, and takes up exactly its units
 abbrev Fits : ℕ → ℕ → Front → Type 0
 Fits at most f = IfSome f.token (λ t. IsThere at most MOST_PAIRS t × (f.after_first ≡ t.len - 1))
 
@@ -21,7 +21,7 @@ front_fits at most None None there = tt
 front_fits at most None (Some t) there = (there, refl)
 
 module _ (by : Scanner) (checked : is_table by.table ≡ true) where
-  -- from each column on that what stands before does not take up
+  -- the tokens are in order within the line from each column that is at most `at + passed` and at most `n`
   abbrev StandFrom : ℕ → ℕ → ℕ → List Token → Type 0
   StandFrom at passed n tokens = (c : ℕ) → c ≤ at + passed → c ≤ n → AreInLine c n tokens
 

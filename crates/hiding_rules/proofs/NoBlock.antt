@@ -14,7 +14,7 @@ use Rattle.hiding_rules.specs.Hidden.{Scanner, code, block, ending, stretch, one
 use Rattle.hiding_rules.specs.States.{states_from, line_states}
 use Rattle.hiding_rules.specs.Known.{state_behind}
 
--- a place that is in no block comment
+-- a context that is not inside a block comment
 abbrev EndsInCode : Within → Type 0
 EndsInCode within = ending within ≡ Code
 

@@ -10,7 +10,7 @@ use Rattle.hiding_rules.specs.Hidden.{code, after, scanned, scanned_from, hidden
 use Rattle.hiding_rules.specs.States.{states_from, line_states}
 use Rattle.hiding_rules.specs.Rows.{line_by, lines_by, broken, hidden_rows}
 
--- the marks that are none
+-- marks without any text or quote are equal to `no_marks`
 pub none_are_no_marks : (m : Marks) → is_none m ≡ true → m ≡ no_marks
 none_are_no_marks m none = of m.line m.block m.quotes none
   where

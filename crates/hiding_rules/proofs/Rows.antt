@@ -8,7 +8,7 @@ use Rattle.hiding_rules.specs.Hidden.{Scanner, hidden_scan}
 use Rattle.hiding_rules.specs.States.{states_from, line_states}
 use Rattle.hiding_rules.specs.Rows.{line_by, lines_by, broken, hidden_rows}
 
--- ---- rows that breaks end
+-- ---- rows whose lines have breaks
 
 pub length-broken : (rows : List Row) → length (broken rows) ≡ length rows
 length-broken [] = refl
@@ -35,7 +35,7 @@ length-lines_by by [] (x ∷ lines) same = absurd (omega (arith, same))
 length-lines_by by (s ∷ states) [] same = absurd (omega (arith, same))
 length-lines_by by (s ∷ states) (x ∷ lines) same = ap suc (length-lines_by by states lines (omega (arith, same)))
 
--- line i by its own state
+-- row i is the row of line i with its own state
 pub line_by-at : (by : Scanner) (states : List LineState) (lines : List (List ℕ)) (i : ℕ) → length states ≡ length lines → i < length lines
     → get_or (lines_by by states lines) i empty_row ≡ line_by by (get_or states i Code) (get_or lines i [])
 line_by-at by [] [] i same within = absurd (omega arith)

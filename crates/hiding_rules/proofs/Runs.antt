@@ -1,4 +1,4 @@
--- Lines in runs: the states of one run of lines behind another, and of a run of which each line was scanned behind the one before.
+-- Runs of lines: the states of two runs in sequence, and of a run whose lines were scanned in sequence.
 use Rattle.std.proofs.Common.{◌≡◌, ℕ, suc, List, [], ◌∷◌, ◌++◌, length, map, true, refl, ap, arith}
 use Rattle.hiding_rules.specs.declared.LineState.{LineState}
 use Rattle.hiding_rules.specs.declared.LineState.TheVariants.{Code, Block}
@@ -18,7 +18,7 @@ module _ (by : Scanner) where
   states_of_both state (x ∷ first) second =
       ap (λ states. state ∷ states) (states_of_both (hidden_scan by state x).state first second)
 
-  -- of a run that was scanned from this state on: its states are the known ones, and no line of it is scanned again
+  -- a run that was scanned from state `from` on: its states are the known ones, and none of its lines is scanned again
   pub record Stays (from to : LineState) (known : List Known) (lines : List (List ℕ)) : Type 0 where
     pub states : states_from by from lines ≡ map (λ k. k.begins) known
     pub behind : state_behind by from lines ≡ to

@@ -1,4 +1,4 @@
--- The states that come of scanning new and restarted lines alone are those from scratch.
+-- Scanning only new and restarted lines gives the same states as scanning all lines.
 use Rattle.std.proofs.Common.{◌≡◌, ℕ, Bool, true, false, cond, List, [], ◌∷◌, length, Option, Some, None, IfSome, refl, ap, sym, arith}
 use Rattle.hiding_rules.specs.declared.LineState.{LineState}
 use Rattle.hiding_rules.specs.declared.LineState.TheVariants.{Code, Block}

@@ -1,4 +1,4 @@
--- How many units a stretch has.
+-- The number of units of a stretch.
 use Rattle.std.proofs.Common.{◌≡◌, ℕ, ◌<◌, ◌≤◌, Bool, true, false, cond, Option, Some, None, IfSome, List, [], ◌∷◌, length, unwrap_or, option_map, arith, leb-true}
 use Rattle.std.specs.Prelude.{nat_eq, ◌==◌}
 use Rattle.std.specs.List.{starts_with, list_any}

@@ -41,7 +41,7 @@ a_string_ends_with_its_line = refl
 another_quote_ends_no_string : scan Code (codes "'\"'(") ≡ scanned (token 3 1 0 true ∷ []) Code
 another_quote_ends_no_string = refl
 
--- the units of the opening mark close nothing
+-- the units of an opening mark are not part of the closing mark
 a_slash_is_not_shared : scan Code (codes "/*/ (") ≡ scanned [] Block
 a_slash_is_not_shared = refl
 
@@ -52,7 +52,7 @@ states_of_four_lines :
     line_states c_scanner (codes "/*" ∷ codes "(" ∷ codes "*/" ∷ codes "y" ∷ []) ≡ Code ∷ Block ∷ Block ∷ Code ∷ []
 states_of_four_lines = refl
 
--- `x` was there in place of `/*`, so all lines began and ended in code
+-- before the edit `x` was in place of `/*`, so all lines began and ended in Code
 abbrev in_code : Option Known
 in_code = Some (record { begins = Code; ends = Code })
 
@@ -72,7 +72,7 @@ brackets_of_a_comment_that_is_none :
     ∷ bracket (length_of 1 5) 1 0 false ∷ []
 brackets_of_a_comment_that_is_none = refl
 
--- ---- which marks there may be
+-- ---- which marks are valid
 
 abbrev quoted : List ℕ → Marks
 quoted quotes = record no_marks { quotes = quotes }

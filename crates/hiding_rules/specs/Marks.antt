@@ -1,5 +1,5 @@
--- What begins and ends comments and strings: the texts that a "language configuration" of Visual Studio Code names as its line
--- comment and its block comment, and the units that are its quotes.
+-- The marks of comments and strings: the texts of the line comment and the block comment in a "language configuration"
+-- of Visual Studio Code, and the units that are quotes.
 use Rattle.std.specs.Prelude.{ℕ, Bool, true, not, ◌&&◌, ◌==◌, nat_le, List, [], ◌∷◌, length, Option, Some, None, is_some}
 use Rattle.std.specs.List.{list_all, list_any}
 use Rattle.std.specs.Char.Utf16.{is_high_surrogate, is_low_surrogate}
@@ -7,11 +7,11 @@ use Rattle.bracket_rules.specs.Table.{is_bracket_text, is_in_line}
 use Rattle.hiding_rules.specs.declared.TheConstants.{MOST_QUOTES, BACKSLASH}
 
 pub record Marks : Type 0 where
-  -- all behind it is hidden, to the end of its line
+  -- hides the rest of its line
   pub line : Option (List ℕ)
-  -- all between the two is hidden, over lines
+  -- hide everything between the two, across lines
   pub block : Option (List ℕ × List ℕ)
-  -- all from one to the next same one is hidden, in one line
+  -- each hides everything up to the next quote of the same unit, within a line
   pub quotes : List ℕ
 
 abbrev pub marks : Option (List ℕ) → Option (List ℕ × List ℕ) → List ℕ → Marks
@@ -20,15 +20,15 @@ marks line block quotes = record { line = line; block = block; quotes = quotes }
 abbrev pub no_marks : Marks
 no_marks = marks None None []
 
--- a comment may begin in one line and end in another
+-- there are block comments, which may begin in one line and end in another
 abbrev pub has_block : Marks → Bool
 has_block m = is_some m.block
 
--- nothing begins a comment or a string
+-- there are no marks, so nothing begins a comment or a string
 abbrev pub is_none : Marks → Bool
 is_none m = not (is_some m.line) && not (has_block m) && length m.quotes == 0
 
--- ---- which marks there may be
+-- ---- which marks are valid
 
 abbrev pub has_line_text : Option (List ℕ) → Bool
 has_line_text None = true

@@ -1,39 +1,39 @@
-//! What hides brackets: comments and strings, by the marks that begin and end them. Which units of
-//! a line are hidden depends on how the line before ended. Definitions and their laws stand in
-//! `specs/` and `proofs/`; the code here is the plain types that the crates above share.
+//! Definitions of comments and strings, which hide brackets. The units of a line that are hidden depend on the state in
+//! which the line before ended. The definitions are in `specs/`, their laws in `proofs/`; the code here is the plain
+//! types that the crates above share.
 #![tactic(auto)]
 
-/// The most units that are quotes.
+/// The maximum number of quote units.
 pub const MOST_QUOTES: u64 = 8;
 
-/// In a string, the unit behind it stands for itself.
+/// The escape unit in a string: the unit after it never ends the string.
 pub const BACKSLASH: u16 = 0x5C;
 
-/// How a line begins, or ends.
+/// The state at the start or the end of a line.
 #[derive(Clone, Copy, PartialEq, Eq, Debug)]
 pub enum LineState {
-    /// Outside of a comment.
+    /// Outside a block comment.
     Code,
-    /// In a block comment.
+    /// Inside a block comment.
     Block,
 }
 
-/// In what a place of a line lies.
+/// The context of a place in a line.
 #[derive(Clone, Copy, PartialEq, Eq, Debug)]
 pub enum Within {
-    /// In what a line may begin in.
+    /// A context in which a line may begin.
     State(LineState),
-    /// In a line comment.
+    /// Inside a line comment.
     Comment,
-    /// In a string that this quote began.
+    /// Inside a string that was opened by this quote.
     String(u16),
 }
 
-/// Units of a line that hold no bracket.
+/// A stretch of units in a line that contains no bracket.
 #[derive(Clone, Copy, PartialEq, Eq, Debug)]
 pub struct Stretch {
-    /// How many they are, 1 or more; the last may stand behind the line's end.
+    /// The number of units, at least 1. The last one may lie beyond the end of the line.
     pub units: u64,
-    /// In what the place behind them lies.
+    /// The context right after the stretch.
     pub behind: Within,
 }

@@ -53,7 +53,7 @@ stays_low v es low =
     is_under : (a b : ℤ) → a <ℤ b → int_lt a b ≡ true
     is_under a b lt = grind (arith, ints)
 
--- it does not stand before the place
+-- the decoration is not before the place
 abbrev NotUnder : Place → KeptMark → Type 0
 NotUnder g m = stands_before (as_mark m) (mark_at g) ≡ false
 
@@ -64,7 +64,7 @@ module _ (edit : Edit) where
   abbrev shown : KeptMark → KeptMark
   shown m = moved_kept edit m
 
-  -- one that does not start behind the edit
+  -- a decoration that does not start after the edit
   record Step (g : Place) (b : Bool) (m : KeptMark) : Type 0 where
     pub greatest : Place
     pub ordered : Bool
@@ -113,7 +113,7 @@ module _ (edit : Edit) where
         (cond-false (ends_before edit m) m (if starts_behind edit m then m else shown m) reach ∙ cond-false (starts_behind edit m) m (shown m) start)
   ]
 
-  -- of two that the edit touches the later does not come to stand before the other
+  -- of two decorations that the edit touches, the later does not come to lie before the earlier
   abbrev Apart : KeptMark → KeptMark → Type 0
   Apart x y = IsTouched edit x → IsTouched edit y → IsNotBelow (shown x) (shown y)
 
@@ -146,7 +146,7 @@ module _ (edit : Edit) where
         );
       }
 
-  -- those that start behind the edit
+  -- the decorations that start after the edit
   behind_all : (g : Place) (b p : Bool) (es : List (ℕ × KeptMark)) → Each (λ m. starts_behind edit m ≡ true) es → (all_of (at g b p) es ≡ es) × ((past_all (at g b p) es).in_order ≡ b)
   behind_all g b p [] s = (refl, refl)
   behind_all g b true (e ∷ es) (s, ss) = let rest = behind_all g b true es ss in (ap (λ l. e ∷ l) rest.0, rest.1)

@@ -1,4 +1,4 @@
--- How many elements of a list have a key.
+-- The number of elements of a list that have a key.
 use Rattle.std.proofs.Common.{◌≡◌, ℕ, ◌+◌, Bool, true, false, cond, inl, inr, List, [], ◌∷◌, refl, arith}
 use Rattle.std.specs.List.{list_any, sum_by}
 use Rattle.std.proofs.lemmas.Bool.{cond-true, cond-false, or_parts, or_from, cases_Bool}

@@ -1,4 +1,4 @@
--- Entries in a row as they are searched by halves, moved up by one and gathered.
+-- Lists of entries under a binary search, a move up by one and a gathering.
 use Rattle.std.proofs.Common.{◌≡◌, ℕ, ◌+◌, ◌<◌, ◌≤◌, true, false, inl, inr, List, [], ◌∷◌, ◌++◌, length, get_or, set, take, drop, Some, sym, ◌∙◌, ap, subst, arith, append_assoc}
 use Rattle.std.specs.Prelude.{slice_get}
 use Rattle.std.specs.List.{AllWithin, filter}
@@ -44,7 +44,7 @@ module _ (es : List Entry) (id low high : ℕ) (by_id : IsById es) (h : IsHalved
   }
 
 module _ {X : Type 0} where
-  -- the item at the place is taken up, and the one that was taken up before put there
+  -- the item at the index is taken out and replaced by the one taken out before
   pub moved_up : (items target : List X) (place : ℕ) (moved stood : X) → take place items ++ moved ∷ drop place items ≡ target → slice_get items place ≡ Some stood
       → take (place + 1) (set items place moved) ++ stood ∷ drop (place + 1) (set items place moved) ≡ target
   moved_up items target place moved stood is found =
@@ -56,7 +56,7 @@ module _ {X : Type 0} where
       ∙ ap (λ l. take place items ++ moved ∷ stood ∷ l) (drop-set-lt (place + 1) items place moved (omega arith))
       ∙ ap (λ l. take place items ++ moved ∷ l) (sym rest) ∙ is
 
--- the entries before `at` are gathered in front, and the others are as they were
+-- the entries before `at` are gathered at the front, and the others are unchanged
 pub record IsGathered (old es : List Entry) (kept at : ℕ) : Type 0 where
   pub few : kept ≤ at
   pub long : length es ≡ length old

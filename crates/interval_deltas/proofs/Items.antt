@@ -1,4 +1,4 @@
--- What holds of each item of a list.
+-- Properties of each item of a list.
 use Rattle.std.proofs.Common.{◌≡◌, ℕ, ℤ, ◌≤ℤ◌, ◌<ℤ◌, Bool, true, false, ◌&&◌, List, [], ◌∷◌, ◌++◌, Option, Some, None, refl, arith}
 use Rattle.std.specs.Int.{int_max}
 use Rattle.std.specs.List.{All, list_all}
@@ -34,7 +34,7 @@ pub each_with : (P Q R : KeptMark → Type 0) → ((m : KeptMark) → P m → Q 
 each_with P Q R to [] h g = tt
 each_with P Q R to (e ∷ es) (h, hs) (g, gs) = (to e.1 h g, each_with P Q R to es hs gs)
 
--- what holds of what each becomes
+-- a property of each changed item
 pub changed_each : (to : Mark → Mark) (P : KeptMark → Type 0) (es : List (ℕ × KeptMark)) → Each (λ m. P (changed_kept to m)) es → Each P (changed_items to es)
 changed_each to P [] h = tt
 changed_each to P (e ∷ es) (h, hs) = (h, changed_each to P es hs)
@@ -50,7 +50,7 @@ each_all P (e ∷ es) h = (All-head (λ (f : ℕ × KeptMark). P f.1) e es h, ea
 pub each_permutation : (P : KeptMark → Type 0) (xs ys : List (ℕ × KeptMark)) → IsPermutation xs ys → Each P xs → Each P ys
 each_permutation P xs ys moved h = each_all P ys (All-permutation (λ (f : ℕ × KeptMark). P f.1) xs ys moved (all_each P xs h))
 
--- what a test of decorations says of the items
+-- a test of decorations, applied to items
 pub each_listed : (p : Mark → Bool) (es : List (ℕ × KeptMark)) → list_all p (marks_of es) ≡ true → Each (λ m. p (as_mark m) ≡ true) es
 each_listed p [] h = tt
 each_listed p (e ∷ es) h = let parts = and_parts (p (as_mark e.1)) (list_all p (marks_of es)) h in (parts.0, each_listed p es parts.1)
@@ -63,7 +63,7 @@ listed_each p (e ∷ es) (h, hs) = and_both (p (as_mark e.1)) (list_all p (marks
     and_both true b h g = g
     and_both false b h g = absurd (both_ways false refl h)
 
--- what stands before an item and after it
+-- the items before an item and after it
 pub before_it : (us : List (ℕ × KeptMark)) (e : ℕ × KeptMark) (vs : List (ℕ × KeptMark)) → IsInOrder (marks_of (us ++ e ∷ vs)) → Each (λ m. stands_before (as_mark m) (as_mark e.1) ≡ true) us
 before_it [] e vs ordered = tt
 before_it (u ∷ us) e vs ordered =
@@ -73,7 +73,7 @@ pub after_it : (us : List (ℕ × KeptMark)) (e : ℕ × KeptMark) (vs : List (�
 after_it [] e vs ordered = each_listed (stands_before (as_mark e.1)) vs ordered.0
 after_it (u ∷ us) e vs ordered = after_it us e vs ordered.1
 
--- without one it is in order
+-- the list without one item is in order
 pub ordered_without : (us : List (ℕ × KeptMark)) (e : ℕ × KeptMark) (vs : List (ℕ × KeptMark)) → IsInOrder (marks_of (us ++ e ∷ vs)) → IsInOrder (marks_of (us ++ vs))
 ordered_without [] e vs ordered = ordered.1
 ordered_without (u ∷ us) e vs ordered =
@@ -119,7 +119,7 @@ module _ (offset : ℤ) where
   join_parts x None e = (below x e, refl)
   join_parts x (Some y) e = ((max_parts x y e).0, not_reaching y (max_parts x y e).1)
 
-  -- the sum reaches the offset where an item does
+  -- the sum reaches the offset if an item does
   pub sum_below : (es : List (ℕ × KeptMark)) → Each (λ m. m.end <ℤ offset) es → reaches offset (sum_of marks es) ≡ false
   sum_below [] h = refl
   sum_below (e ∷ es) (h, hs) = join_below e.1.end (sum_of marks es) h (sum_below es hs)

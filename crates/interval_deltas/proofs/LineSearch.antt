@@ -13,11 +13,11 @@ module _ (lines : List LineMove) (place : ℕ) (are : AreLineMoves lines) where
   abbrev Started : ℕ → Type 0
   Started at = HoldsAt (λ line. line.old ≤ place) lines at
 
-  -- the one that was read
+  -- the line that was read
   pub started_here : (at here : ℕ) (d : LineMove) → at ≡ here → here < length lines → (get_or lines here d).old ≤ place → HasStarted lines place at
   started_here at here d is within low = subst (HasStarted lines place) (sym is) (within, λ e. subst (λ (l : LineMove). l.old ≤ place) (get_or_default lines here d e within) low)
 
-  -- the next one had not started
+  -- the next line starts after the place
   pub last_started : (at next : ℕ) (e : LineMove) → next ≡ at + 1 → next < length lines → HasStarted lines place at → place < (get_or lines next e).old → IsLineAt lines place at
   last_started at next e is within started behind = (
     started,
@@ -28,14 +28,14 @@ module _ (lines : List LineMove) (place : ℕ) (are : AreLineMoves lines) where
         ],
   )
 
-  -- there is no next one
+  -- there is no next line
   pub all_started : (at : ℕ) → at + 1 ≡ length lines → HasStarted lines place at → IsLineAt lines place at
   all_started at is started = (started, λ k d low high. absurd (omega (arith, is, low, high)))
 
   abbrev pub is_started : LineMove → Bool
   is_started line = leb line.old place
 
-  -- the lines behind one that had started are searched
+  -- the search covers the lines after one that starts at the place or earlier
   module _ (from : ℕ) (begins : HasStarted lines place from) where
     abbrev rest : List LineMove
     rest = take (length lines - (from + 1)) (drop (from + 1) lines)

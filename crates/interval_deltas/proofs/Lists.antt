@@ -1,4 +1,4 @@
--- What a list of items is once one is put in, is taken out, or stands elsewhere.
+-- Lists of items after an insertion, a removal or a move of an item.
 use Rattle.std.proofs.Common.{◌≡◌, ℕ, ◌≤◌, suc, true, false, not, cond, eqb, inl, inr, List, [], ◌∷◌, ◌++◌, length, map, Option, Some, None, refl, sym, ◌∙◌, ap, subst, arith, append_assoc}
 use Rattle.std.specs.Prelude.{◌==◌}
 use Rattle.std.specs.List.Sorted.{IsPermutation}
@@ -37,7 +37,7 @@ module _ {X : Type 0} where
   head_is : (a b : ℕ × X) (us vs : List (ℕ × X)) → a ∷ us ≡ b ∷ vs → a ≡ b
   head_is a b us vs e = cc
 
-  -- one place alone has that name
+  -- only one position has that name
   pub same_split : (id : ℕ) (us ws : List (ℕ × X)) (x y : X) (vs zs : List (ℕ × X)) → us ++ (id, x) ∷ vs ≡ ws ++ (id, y) ∷ zs → times_named id (us ++ (id, x) ∷ vs) ≤ 1
       → (us ++ (id, x) ∷ [] ≡ ws ++ (id, y) ∷ []) × (vs ≡ zs)
   same_split id [] [] x y vs zs e once = (ap (λ (f : ℕ × X). f ∷ []) (head_is (id, x) (id, y) vs zs e), tail_is (id, x) (id, y) vs zs e)
@@ -60,7 +60,7 @@ module _ {X : Type 0} where
       let (front, back) = same_split id ks bs x y vs zs (sym whole ∙ other) few in
       (first ∙ front ∙ sym second, back)
 
-  -- An item that stands elsewhere.
+  -- An item that is moved elsewhere.
 
   pub lifted : (us : List (ℕ × X)) (e : ℕ × X) (vs ls : List (ℕ × X)) → IsPermutation ((us ++ e ∷ vs) ++ ls) ((us ++ vs) ++ e ∷ ls)
   lifted us e vs ls =
@@ -82,7 +82,7 @@ pub length-marks : (es : List (ℕ × KeptMark)) → length (marks_of es) ≡ le
 length-marks [] = refl
 length-marks (e ∷ es) = ap suc (length-marks es)
 
--- One is put in.
+-- An item is inserted.
 
 -- its id is new
 pub fresh_at : (us : List (ℕ × KeptMark)) (e : ℕ × KeptMark) (vs : List (ℕ × KeptMark)) → HasDistinctIds (marks_of (us ++ e ∷ vs)) → is_live (marks_of (us ++ vs)) e.1.label.id ≡ false
@@ -110,7 +110,7 @@ put_parted (u ∷ us) e vs before behind fresh =
     ∙ sym (cond-false (stands_before (as_mark e.1) (as_mark u.1)) (as_mark e.1 ∷ as_mark u.1 ∷ marks_of (us ++ vs)) (as_mark u.1 ∷ put_in_order (as_mark e.1) (marks_of (us ++ vs)))
     (stands_before-weak.one_way (as_mark u.1) (as_mark e.1) before.0))
 
--- One is taken out.
+-- An item is removed.
 
 keeps : (id : ℕ) (x : Mark) (xs : List Mark) → has_id id x ≡ false → without id (x ∷ xs) ≡ x ∷ without id xs
 keeps id x xs other = cond-true (not (has_id id x)) (x ∷ without id xs) (without id xs) (ap not other)
@@ -145,7 +145,7 @@ node_none (e ∷ es) id none =
     cond-false (eqb id e.1.label.id) (Some e.0) (node_in es id) (ne_eqb id e.1.label.id (λ same. both_ways (has_id id (as_mark e.1)) parts.0 (eq-eqb e.1.label.id id (sym same))))
     ∙ node_none es id parts.1
 
--- the item of a node that an id has
+-- the item of the node of an id
 pub node_some : (es : List (ℕ × KeptMark)) (id node : ℕ) → node_in es id ≡ Some node
     → (us : List (ℕ × KeptMark)) × ((m : KeptMark) × ((vs : List (ℕ × KeptMark)) × (es ≡ us ++ (node, m) ∷ vs) × (m.label.id ≡ id) × (mark_of (marks_of es) id ≡ Some (as_mark m))))
 node_some [] id node e = absurd (cc)

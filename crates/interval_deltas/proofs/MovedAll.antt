@@ -1,4 +1,4 @@
--- All decorations of a tree move where they stand.
+-- All decorations of a tree move, each in its node.
 use Rattle.std.proofs.Common.{◌≡◌, ℕ, ◌+◌, ◌<◌, ◌≤◌, ℤ, pos, ◌+ℤ◌, ◌<ℤ◌, min, true, false, inl, inr, List, [], ◌∷◌, ◌++◌, Option, Some, None, refl, sym, ◌∙◌, ap, subst, arith, append_assoc}
 use Rattle.std.specs.Prelude.{◌⊎◌, int_lt}
 use Rattle.std.proofs.lemmas.Int.{ints}
@@ -120,7 +120,7 @@ module _ (edit : Edit) (items : List (ℕ × KeptMark)) (last : Option ℕ) (p :
   pub values_rewritten : (v : Moving) → v ≡ starting edit → Valued marks is_mark is_low (all_of v items)
   values_rewritten v begins = let h = rewritten_marks (all_of v items) v begins refl in (h, sum_low (all_of v items) h)
 
--- where those lie that come to stand out of order
+-- decorations that are out of order afterwards lie at the edited range
 pub cross_moved : (edit : Edit) (bound : ℤ) (es : List (ℕ × KeptMark)) → edit.start ≤ edit.end → bound ≡ capped (edit.start + edit.units) → AreMarks es → CanMove edit es → IsInOrder (marks_of es)
     → CrossIn (capped edit.start) bound (moved_items edit es)
 cross_moved edit bound [] up is h f ordered = tt

@@ -1,4 +1,4 @@
--- How an edit moves what stands before it and after it.
+-- The move of decorations before and after an edit.
 use Rattle.std.proofs.Common.{◌≡◌, ℕ, ◌+◌, ◌-◌, ◌<◌, ◌≤◌, ℤ, pos, negsuc, ◌+ℤ◌, ◌-ℤ◌, ◌≤ℤ◌, ◌<ℤ◌, Bool, false, not, ◌&&◌, ltb, leb, eqb, inl, inr, List, [], ◌∷◌, w64, refl, sym, ◌∙◌, ap, arith}
 use Rattle.std.specs.Int.{cast_unsigned}
 use Rattle.std.proofs.lemmas.Bool.{cond-true, cond-false, and_parts, or_left, lt-ltb, leb-true, cases_Bool}
@@ -21,7 +21,7 @@ grounded (negsuc n) h = absurd (omega (arith, ints, h))
 pub kept_as : (m : KeptMark) → is_mark m → kept_of (as_mark m) ≡ m
 kept_as m (h, g, l) = λ i. record { start = grounded m.start h i; end = grounded m.end (omega (arith, ints, h, g)) i; label = m.label }
 
--- One that starts after the edit.
+-- A decoration that starts after the edit.
 
 past_place : (rule : AtPlace) (sticks : Bool) (offset place : ℕ) → place < offset → stays_before rule sticks offset place ≡ false
 past_place rule sticks offset place past = elim (cases_Bool (stays_before rule sticks offset place)) [
@@ -61,7 +61,7 @@ span_past span sticky collapse edit up order past =
     ∙ (λ i. upright (offset_past (start_sticks sticky) span.start edit up past i) (offset_past (end_sticks sticky) span.end edit up (omega arith) i))
     ∙ upright_is (span.start + edit.units - removed edit) (span.end + edit.units - removed edit) (omega arith)
 
--- One that ends before the edit.
+-- A decoration that ends before the edit.
 
 pub offset_still : (sticks : Bool) (offset : ℕ) (edit : Edit) → offset < edit.start → moved_offset sticks offset edit ≡ offset
 offset_still sticks offset edit low =
@@ -73,7 +73,7 @@ span_still span sticky collapse edit order low =
     ∙ (λ i. upright (offset_still (start_sticks sticky) span.start edit (omega arith) i) (offset_still (end_sticks sticky) span.end edit low i))
     ∙ upright_is span.start span.end order
 
--- The same of items.
+-- The same for items.
 
 pub nat_order : (m : KeptMark) → is_mark m → cast_unsigned w64 m.start ≤ cast_unsigned w64 m.end
 nat_order m (h, g, l) = let first = grounded m.start h in let second = grounded m.end (omega (arith, ints, h, g)) in omega (arith, ints, first, second, g)
@@ -112,7 +112,7 @@ pub past_items : (edit : Edit) (by : ℤ) (es : List (ℕ × KeptMark)) → edit
 past_items edit by [] up is h g = refl
 past_items edit by (e ∷ es) up is (h, hs) (g, gs) = λ i. (e.0, past_kept edit e.1 by h up g is i) ∷ past_items edit by es up is hs gs i
 
--- how large an edit is before which one stands
+-- the size of an edit after a decoration
 pub small_edit : (edit : Edit) (m : KeptMark) → is_mark m → edit.start ≤ edit.end → pos edit.end <ℤ m.start → (moved_mark edit (as_mark m)).span.end < offset_limit
     → (edit.units < offset_limit) × (edit.end < offset_limit)
 small_edit edit m h up past fits =

@@ -1,4 +1,4 @@
--- What an id names once the entries change.
+-- The node of an id after a change of the entries.
 use Rattle.std.proofs.Common.{◌≡◌, ℕ, ◌+◌, ◌<◌, ◌≤◌, zero, suc, true, false, cond, ltb, eqb, inl, inr, List, [], ◌∷◌, length, get_or, set, take, drop, Option, None, Some, refl, sym, ◌∙◌, ap, subst, arith}
 use Rattle.std.specs.Prelude.{is_some, IsSome}
 use Rattle.std.specs.List.{count_by, All, AllWithin, insert, filter}
@@ -22,7 +22,7 @@ step_same x xs id same = cond-true (eqb id x.id) x.node (node_of xs id) (eq-eqb 
 step_other : (x : Entry) (xs : List Entry) (id : ℕ) → (id ≡ x.id → ⊥) → node_of (x ∷ xs) id ≡ node_of xs id
 step_other x xs id apart = cond-false (eqb id x.id) x.node (node_of xs id) (ne_eqb id x.id apart)
 
--- the node of an entry that stands there
+-- the node of the entry at the index
 pub node_at : (es : List Entry) (id at : ℕ) (d : Entry) → IsById es → at < length es → (get_or es at d).id ≡ id → node_of es id ≡ (get_or es at d).node
 node_at [] id at d by_id below same = absurd (omega arith)
 node_at (x ∷ xs) id zero d by_id below same = step_same x xs id (sym same)
@@ -58,7 +58,7 @@ has_set (x ∷ xs) (suc at) e d by_id below same k =
     ap (cond (eqb k x.id) x.node) (has_set xs at e d (tail_ids x xs by_id) (omega arith) same k)
     ∙ past_other k e.id x.id x.node (node_of xs k) e.node (λ is. absurd (omega (arith, is, same, later_ids x xs by_id at d (omega arith))))
 
--- a new one behind those of lower ids
+-- a new entry after those with lower ids
 pub has_insert : (es : List Entry) (at : ℕ) (e : Entry) → AllWithin (λ other. other.id < e.id) es 0 at → at ≤ length es → HasNode es (insert es at e) e.id e.node
 has_insert es zero e lower within k = refl
 has_insert [] (suc at) e lower within k = refl
@@ -79,7 +79,7 @@ none_of : (o : Option ℕ) → is_some o ≡ false → o ≡ None
 none_of None e = refl
 none_of (Some n) e = absurd (both_ways true e refl)
 
--- those without a node are taken out
+-- the entries without a node are removed
 pub node-named : (es : List Entry) (id : ℕ) → IsById es → node_of (filter is_named es) id ≡ node_of es id
 node-named [] id by_id = refl
 node-named (x ∷ xs) id by_id = elim (cases_Bool (is_named x)) [
@@ -113,7 +113,7 @@ has_none es id at belongs k = elim (cases_Bool (eqb k id)) [
 pub has_swept : (old es : List Entry) (id : ℕ) (own : Option ℕ) → IsById es → HasNode old es id own → HasNode old (filter is_named es) id own
 has_swept old es id own by_id has k = node-named es k by_id ∙ has k
 
--- the ids stay
+-- the ids are unchanged
 pub IsById-set : (es : List Entry) (at : ℕ) (e : Entry) → IsById es → at < length es → ((d : Entry) → (get_or es at d).id ≡ e.id) → IsById (set es at e)
 IsById-set es at e by_id below same i j d lt high =
     let long : j < length es = omega (arith, length-set es at e) in
@@ -123,7 +123,7 @@ IsById-set es at e by_id below same i j d lt high =
     ] in
     omega (arith, own i (omega arith), own j long, by_id i j d lt long)
 
--- How many have a node.
+-- The number of entries with a node.
 
 count_cons : (x : Entry) (xs : List Entry) → count_by is_named (x ∷ xs) ≡ cond (is_named x) 1 0 + count_by is_named xs
 count_cons x xs = sum_by-cons (λ (e : Entry). cond (is_named e) 1 0) x xs

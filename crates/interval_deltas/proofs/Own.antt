@@ -1,4 +1,4 @@
--- Items under names of their own.
+-- Items with distinct names.
 use Rattle.std.proofs.Common.{◌≡◌, ℕ, cond, inl, inr, List, [], ◌∷◌, ◌++◌, length, Option, Some, None, refl, sym, ◌∙◌, ap, subst, arith, append_assoc}
 use Rattle.std.specs.Prelude.{◌==◌}
 use Rattle.std.specs.List.Sorted.{IsPermutation}
@@ -32,7 +32,7 @@ own_all_changed to old new changed own k = let once = own k in omega (arith, sum
 pub own_without : (us : List (ℕ × KeptMark)) (e : ℕ × KeptMark) (vs : List (ℕ × KeptMark)) → HaveOwnNames (us ++ e ∷ vs) [] → HaveOwnNames (us ++ vs) []
 own_without us e vs own k = let once = own k in omega (arith, sum_by-append (named k) us (e ∷ vs), sum_by-append (named k) us vs, sum_by-cons (named k) e vs, once)
 
--- One is put in. Were its name that of another, the same would stand before both.
+-- An item is inserted. If another item had its name, the same item would be before both.
 
 times_zero : (n : ℕ) (es : List (ℕ × KeptMark)) → ((ws : List (ℕ × KeptMark)) (y : KeptMark) (zs : List (ℕ × KeptMark)) → es ≡ ws ++ (n, y) ∷ zs → ⊥) → times_named n es ≡ 0
 times_zero n [] none = refl

@@ -1,4 +1,4 @@
--- An edit that touches none.
+-- An edit that touches no decoration.
 use Rattle.std.proofs.Common.{◌≡◌, ℕ, ◌<◌, ◌≤◌, pos, ◌<ℤ◌, true, inl, inr, List, [], ◌∷◌, ◌++◌, Option, Some, None, sym, ◌∙◌, ap, subst, arith, append_assoc}
 use Rattle.std.proofs.lemmas.Int.{ints}
 use Rattle.rb_arena.specs.RbTree.{SplitsAt, PlaceAfter, EndsWith, AtPlace, last_or}
@@ -34,7 +34,7 @@ module _ (edit : Edit) (up : edit.start ≤ edit.end) where
   untouched_order : (a b : KeptMark) → is_mark a → is_mark b → IsUntouched edit a → IsUntouched edit b → stands_before (as_mark a) (as_mark b) ≡ true → IsNotBelow (moved_kept edit a) (moved_kept edit b)
   untouched_order a b h g t u before = stands_before-weak.one_way (as_mark (moved_kept edit a)) (as_mark (moved_kept edit b)) (kept_order edit a b up h g t u before)
 
-  -- they stand in order after it
+  -- the decorations are in order after the edit
   sorted : (es : List (ℕ × KeptMark)) → AreMarks es → Each (IsUntouched edit) es → IsInOrder (marks_of es) → AreSorted (moved_items edit es)
   sorted [] h t o = tt
   sorted (e ∷ es) (h, hs) (t, ts) (o, os) = (
@@ -45,7 +45,7 @@ module _ (edit : Edit) (up : edit.start ≤ edit.end) where
     sorted es hs ts os,
   )
 
-  -- Where each ends before it, all stay.
+  -- If each decoration ends before the edit, all are unchanged.
 
   module _ (items : List (ℕ × KeptMark)) (values : AreMarks items) (low : Each (λ m. m.end <ℤ capped edit.start) items) where
     pub all_stay : items ≡ moved_items edit items
@@ -54,7 +54,7 @@ module _ (edit : Edit) (up : edit.start ≤ edit.end) where
     pub stay_sorted : IsInOrder (marks_of items) → AreSorted items
     stay_sorted ordered = subst AreSorted (sym all_stay) (sorted items values (each_weaker Ends (IsUntouched edit) (λ m e. inl e) items (ends_all items low)) ordered)
 
-  -- Where the first that reaches it starts behind it, that one and those behind it follow.
+  -- If the first decoration that reaches the edit starts after it, that one and all later ones are shifted.
 
   module _ (items : List (ℕ × KeptMark)) (values : AreMarks items) (ordered : IsInOrder (marks_of items)) (fits : CanMove edit items) (us : List (ℕ × KeptMark)) (id : ℕ) (m : KeptMark) (vs : List (ℕ × KeptMark))
       (is : SplitsAt items id us m vs) (low : Each (λ n. n.end <ℤ capped edit.start) us) (high : capped edit.end <ℤ m.start) (last : Option ℕ) (prev : last ≡ last_or None us) where

@@ -1,4 +1,4 @@
--- What searches answer.
+-- The results of searches.
 use Rattle.std.proofs.Common.{◌≡◌, ℕ, ℤ, pos, negsuc, ◌≤ℤ◌, ◌<ℤ◌, Bool, true, false, ◌||◌, ◌&&◌, ltb, eqb, inl, inr, List, [], ◌∷◌, ◌++◌, Option, Some, None, refl, sym, ◌∙◌, ap, subst, arith, append_assoc}
 use Rattle.std.specs.Prelude.{if◌then◌else◌}
 use Rattle.std.specs.Ordering.{int_cmp, nat_cmp, ordering_then, is_lt}
@@ -21,7 +21,7 @@ use Rattle.interval_deltas.specs.Weave.{marks, mark_turn, is_mark, placed, towar
 use Rattle.interval_deltas.specs.Kept.{Each, AreMarks, as_mark, mark_at, marks_of, IsPlace, PartedAt}
 use Rattle.interval_deltas.proofs.Items.{each_right, each_both, each_weaker, before_it, after_it, sum_below, each_below}
 
--- Where a turn points.
+-- The meaning of a turn.
 
 right_is : (o : Ordering) → toward o ≡ Right → is_lt o ≡ true
 right_is Less e = refl
@@ -53,7 +53,7 @@ turn_right true b e = absurd (cc)
 turn_right false true e = absurd (cc)
 turn_right false false e = (refl, refl)
 
--- The order of places is that of decorations.
+-- The order of places agrees with the order of decorations.
 
 abbrev plain : ℕ → ℕ → ℕ → Mark
 plain start end id = mark_at (record { start = pos start; end = pos end; id = id })
@@ -126,7 +126,7 @@ module _ (p : Place) (place : IsPlace p) where
   abbrev NotBefore : KeptMark → Type 0
   NotBefore m = stands_before (as_mark m) (mark_at p) ≡ false
 
-  -- what stands after one that is not before the place is not before it
+  -- a decoration after one that is not before the place is not before the place
   not_before : (x y : Mark) → stands_before x (mark_at p) ≡ false → stands_before x y ≡ true → stands_before y (mark_at p) ≡ false
   not_before x y away before = elim (cases_Bool (stands_before y (mark_at p))) [
     | inl is ↦ absurd (both_ways (stands_before x (mark_at p)) away (stands_before-trans x y (mark_at p) before is))
@@ -144,7 +144,7 @@ module _ (p : Place) (place : IsPlace p) where
     value : is_mark m
     value = (each_right is_mark us ((id, m) ∷ vs) values).0
 
-    -- those before one that stands before the place
+    -- decorations before one that is before the place
     trans_before : (ws : List (ℕ × KeptMark)) (x : Mark) → stands_before x (mark_at p) ≡ true → Each (λ n. stands_before (as_mark n) x ≡ true) ws → Each Before ws
     trans_before ws x before all = each_weaker (λ n. stands_before (as_mark n) x ≡ true) Before (λ n first. stands_before-trans (as_mark n) x (mark_at p) first before) ws all
 

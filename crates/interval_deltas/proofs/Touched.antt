@@ -1,4 +1,4 @@
--- Where a decoration stands after an edit that touches it, beside others.
+-- The position of a decoration after an edit that touches it, relative to others.
 use Rattle.std.proofs.Common.{◌≡◌, ℕ, ◌+◌, ◌-◌, ◌<◌, ◌≤◌, ℤ, pos, ◌≤ℤ◌, ◌<ℤ◌, Bool, true, false, ◌&&◌, ltb, leb, eqb, inl, inr, refl, sym, ap, subst, arith, w64}
 use Rattle.std.specs.Prelude.{◌⊎◌, if◌then◌else◌, int_lt, not}
 use Rattle.std.specs.Int.{cast_unsigned}
@@ -43,14 +43,14 @@ module _ (edit : Edit) (up : edit.start ≤ edit.end) where
       let stay = (and_parts (ltb 0 (replaced edit) && not edit.force) (stays_before (at_replaced edit) sticks offset (edit.start + replaced edit)) e).1 in
       let le = offset-stays_before (at_replaced edit) sticks offset (edit.start + replaced edit) stay in let few = replaced_few edit in omega (arith, le, few)
 
-  -- an offset at the edit's start or after it does not come to stand before it
+  -- an offset at the edit's start or after it does not move before that start
   offset_high : (sticks : Bool) (offset : ℕ) → edit.start ≤ offset → edit.start ≤ moved_offset sticks offset edit
   offset_high sticks offset high =
       pick (λ n. edit.start ≤ n) (stays_before (at_start edit) sticks offset edit.start) (ltb 0 (replaced edit) && not edit.force && stays_before (at_replaced edit) sticks offset (edit.start + replaced edit))
       (stays_before (at_end edit) sticks offset edit.end) offset (edit.start + edit.units) (offset + edit.units - removed edit)
       (λ _. high) (λ _. high) (λ _. omega arith) (λ e. let le = not_staying (at_end edit) sticks offset edit.end e in omega (arith, le, up))
 
-  -- one at its end or before it does not come to stand behind what it puts in
+  -- an offset at the edit's end or before it does not move past the end of the inserted text
   offset_under : (sticks : Bool) (offset : ℕ) → offset ≤ edit.end → moved_offset sticks offset edit ≤ edit.start + edit.units
   offset_under sticks offset low =
       pick (λ n. n ≤ edit.start + edit.units) (stays_before (at_start edit) sticks offset edit.start)
@@ -88,7 +88,7 @@ module _ (edit : Edit) (up : edit.start ≤ edit.end) where
         pick_span (λ s. edit.start ≤ s.end) (collapse && is_taken span edit) point apart (λ _. omega arith)
         (λ _. let le = offset_high (end_sticks sticky) span.end high in omega (arith, le))
 
--- Two of which the edit does not touch both keep their order.
+-- Two decorations keep their order if the edit does not touch both.
 
 starts_before : (a b : Mark) → a.span.start < b.span.start → stands_before a b ≡ true
 starts_before a b lt = grind (arith, nat_tests)
@@ -120,7 +120,7 @@ before_past edit a b up low past order =
     let le = start_under edit up a.span a.sticky a.collapse low in let is = ap (λ (s : Span). s.start) (span_past b.span b.sticky b.collapse edit up order past) in
     starts_before (moved_mark edit a) (moved_mark edit b) (omega (arith, le, is, past, up))
 
--- The same of those that are kept.
+-- The same for decorations in the stored form.
 
 under : (a b : ℤ) → int_lt a b ≡ true → a <ℤ b
 under a b e = grind (arith, ints)
@@ -156,7 +156,7 @@ module _ (edit : Edit) (up : edit.start ≤ edit.end) (m : KeptMark) (value : is
   nat_starts : starts_behind edit m ≡ false → (as_mark m).span.start ≤ edit.end
   nat_starts e = let le = not_under (capped edit.end) m.start e in let is = first in omega (arith, ints, le, is)
 
-  -- where one lies that the edit touches
+  -- a decoration that the edit touches lies at the edited range afterwards
   pub lies_there : IsTouched edit m → (bound : ℤ) → bound ≡ capped (edit.start + edit.units) → (moved_mark edit (as_mark m)).span.end < offset_limit → LiesIn (capped edit.start) bound (moved_kept edit m)
   lies_there (reach, start) bound is fits =
       let own = as_mark m in let high = end_high edit up own.span own.sticky own.collapse (nat_reaches reach) in let low = start_under edit up own.span own.sticky own.collapse (nat_starts start) in

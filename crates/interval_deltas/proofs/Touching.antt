@@ -1,4 +1,4 @@
--- What touches a span.
+-- The decorations that touch a span.
 use Rattle.std.proofs.Common.{◌≡◌, ℕ, ◌<◌, ◌≤◌, ◌<ℤ◌, ◌≤ℤ◌, true, false, inl, inr, List, [], ◌∷◌, ◌++◌, refl, sym, ◌∙◌, ap, subst, arith, append_assoc}
 use Rattle.std.proofs.lemmas.Bool.{cond-true, cond-false, cases_Bool}
 use Rattle.std.proofs.lemmas.Bool.Decides.{nat_tests}
@@ -40,7 +40,7 @@ touching-append span (u ∷ us) vs = elim (cases_Bool (touches span (as_mark u.1
 pub below_apart : (span : Span) (m : KeptMark) → is_mark m → m.end <ℤ capped span.start → touches span (as_mark m) ≡ false
 below_apart span m (h, g, l) low = let second = grounded m.end (omega (arith, ints, h, g)) in apart_low span (as_mark m) (omega (arith, ints, second, low))
 
--- from one on that starts behind the span none touches it
+-- no decoration touches the span from the first on that starts after it
 pub none_behind : (span : Span) (us : List (ℕ × KeptMark)) (e : ℕ × KeptMark) (vs : List (ℕ × KeptMark)) → IsInOrder (marks_of (us ++ e ∷ vs)) → span.end < (as_mark e.1).span.start → touching span (marks_of (e ∷ vs)) ≡ []
 none_behind span us e vs ordered high =
     touching_none span (e ∷ vs) (
@@ -59,7 +59,7 @@ touch_both span mark first second = grind (arith, nat_tests)
 pub reaching_touches : (span : Span) (m : KeptMark) → is_mark m → (as_mark m).span.start ≤ span.end → capped span.start ≤ℤ m.end → touches span (as_mark m) ≡ true
 reaching_touches span m (h, g, l) first high = let second = grounded m.end (omega (arith, ints, h, g)) in touch_both span (as_mark m) first (omega (arith, ints, second, high, l))
 
--- where none of the rest touches the span, the walk has told all that do
+-- if none of the rest touches the span, the walk has found all that do
 pub walk_end : (span : Span) (items us vs : List (ℕ × KeptMark)) → items ≡ us ++ vs → touching span (marks_of vs) ≡ [] → touching span (marks_of items) ≡ touching span (marks_of us)
 walk_end span items us vs is none =
     ap (λ l. touching span (marks_of l)) is ∙ touching-append span us vs ∙ ap (λ l. touching span (marks_of us) ++ l) none ∙ append-nil (touching span (marks_of us))
@@ -71,7 +71,7 @@ walk_on span items us vs ws e zs values whole is low =
     let rest : AreMarks (ws ++ e ∷ zs) = subst AreMarks is (each_right is_mark us vs (subst AreMarks whole values)) in
     (whole ∙ ap (λ l. us ++ l) is ∙ sym (append_assoc us ws (e ∷ zs)), walk_end span (us ++ ws) us ws refl (ended_apart span ws (each_left is_mark ws (e ∷ zs) rest) low))
 
--- and tells that one where it touches
+-- and appends that one if it touches the span
 pub walk_more : (span : Span) (us : List (ℕ × KeptMark)) (e : ℕ × KeptMark) → touches span (as_mark e.1) ≡ true → touching span (marks_of (us ++ e ∷ [])) ≡ touching span (marks_of us) ++ as_mark e.1 ∷ []
 walk_more span us e touch =
     touching-append span us (e ∷ []) ∙ ap (λ l. touching span (marks_of us) ++ l) (cond-true (touches span (as_mark e.1)) (as_mark e.1 ∷ []) [] touch)

@@ -1,4 +1,4 @@
--- What a tree keeps as one is put in, is taken out, or all move.
+-- The invariant of a tree under an insertion, a removal and a move of all decorations.
 use Rattle.std.proofs.Common.{◌≡◌, ℕ, ◌+◌, ◌-◌, ◌<◌, ◌≤◌, zero, suc, true, false, cond, eqb, inl, inr, List, [], ◌∷◌, ◌++◌, length, get_or, map, Option, Some, None, refl, sym, ◌∙◌, ap, subst, arith}
 use Rattle.std.specs.List.{All, Contains}
 use Rattle.std.specs.List.Sorted.{IsPermutation}
@@ -76,7 +76,7 @@ node_permutation xs ys moved distinct k = by_node (node_in xs k) refl
         let there : Contains ys (n, m) = Contains-permutation xs ys (n, m) moved (contains_at us (n, m) vs xs is) in
         e ∙ sym (ap (node_in ys) (sym same) ∙ node_contains ys (n, m) (distinct_permutation (marks_of xs) (marks_of ys) (IsPermutation-map (λ (f : ℕ × KeptMark). as_mark f.1) xs ys moved) distinct) there)
 
--- An edit leaves those in order that it does not touch.
+-- An edit keeps the decorations that it does not touch in order.
 
 shifted_before : (a b : Mark) (u r : ℕ) → r ≤ a.span.start → a.span.start ≤ a.span.end → r ≤ b.span.start → b.span.start ≤ b.span.end → stands_before a b ≡ true
     → stands_before (record a { span = record { start = a.span.start + u - r; end = a.span.end + u - r } }) (record b { span = record { start = b.span.start + u - r; end = b.span.end + u - r } }) ≡ true
@@ -117,7 +117,7 @@ can_move edit (e ∷ es) h =
     let P : Mark → Type 0 = λ mark. (moved_mark edit mark).span.end < offset_limit in
     (All-head P (as_mark e.1) (marks_of es) h, can_move edit es (All-tail P (as_mark e.1) (marks_of es) h))
 
--- All are changed, and stand in another order then. None changes its id.
+-- All decorations are changed and reordered. None changes its id.
 module _ (to : Mark → Mark) (keeps : (m : Mark) → (to m).id ≡ m.id) (old new : List (ℕ × KeptMark)) (changed : IsPermutation (changed_items to old) new) where
   pub lengths_changed : length new ≡ length old
   lengths_changed = length_permutation (changed_items to old) new changed ∙ length-map old (λ e. (e.0, changed_kept to e.1))

@@ -27,7 +27,7 @@ starts_before a n b e f g before = grind (arith, nat_tests)
 pub starts_behind_place : (a : Mark) (n : ℕ) (b : Mark) → b.span.start ≡ n → stands_before a b ≡ false → n ≤ a.span.start
 starts_behind_place a n b e other = grind (arith, nat_tests)
 
--- What stands behind an edit and does not move.
+-- Decorations after an edit that do not move.
 
 stays : (edit : Edit) (m : KeptMark) → is_mark m → edit.start ≤ edit.end → pos edit.end <ℤ m.start → edit.units ≡ removed edit → moved_kept edit m ≡ m
 stays edit m h up behind same = sym (past_kept edit m (pos 0) h up behind (omega (arith, ints, same))) ∙ lawful.shift_still m

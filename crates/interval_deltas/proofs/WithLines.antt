@@ -1,4 +1,4 @@
--- Decorations go with their lines, one after the other.
+-- Decorations are carried along with their lines, one after the other.
 use Rattle.std.proofs.Common.{◌≡◌, ℕ, ◌≤◌, ◌≤ℤ◌, Bool, true, false, inl, inr, List, [], ◌∷◌, refl, sym, ◌∙◌, ap, subst, arith}
 use Rattle.std.specs.Prelude.{◌⊎◌}
 use Rattle.std.specs.Int.{int_min, int_max}
@@ -23,7 +23,7 @@ use Rattle.interval_deltas.proofs.Items.{each_weaker, each_with, each_listed, su
 use Rattle.interval_deltas.proofs.Moving.{grounded, nat_order}
 use Rattle.interval_deltas.proofs.Sorting.{stands_before-weak}
 
--- One is met.
+-- One decoration is recorded.
 
 module _ (v : Carried) (m : KeptMark) where
   abbrev pub is_below : Bool
@@ -44,7 +44,7 @@ module _ (v : Carried) (m : KeptMark) where
     | inr above ↦ ap (λ (w : Carried). w.lines) (met_above above)
   ]
 
--- The starts between which those lie that came to stand before another.
+-- The range of the starts of decorations that came to lie before an earlier one.
 
 abbrev Starts : Carried → KeptMark → Type 0
 Starts v m = (v.first ≤ℤ m.start) × (m.start ≤ℤ v.last)
@@ -65,7 +65,7 @@ met_wider v m = elim (cases_Bool (is_below v m)) [
 met_starts : (v : Carried) (m : KeptMark) → is_below v m ≡ true → Starts (met v m) m
 met_starts v m below = subst (λ w. Starts w m) (sym (met_below v m below)) (omega (arith, ints, clamps), omega (arith, ints, clamps))
 
--- What stands before the greatest, or before the one that is met, stands before the greatest of then.
+-- A decoration before the greatest place so far, or before the recorded one, is before the new greatest place.
 
 before_greatest : (v : Carried) (m : KeptMark) (x : Mark) → stands_before x (mark_at v.greatest) ≡ true → stands_before x (mark_at (met v m).greatest) ≡ true
 before_greatest v m x before = elim (cases_Bool (is_below v m)) [
@@ -82,7 +82,7 @@ before_met v m x before = elim (cases_Bool (is_below v m)) [
   | inr above ↦ subst (λ (w : Carried). stands_before x (mark_at w.greatest) ≡ true) (sym (met_above v m above)) before
 ]
 
--- All are met.
+-- All decorations are recorded.
 
 abbrev all_met : Carried → List (ℕ × KeptMark) → Carried
 all_met v [] = v
@@ -110,7 +110,7 @@ NoLater a b = a.start ≤ℤ b.start
 starts_no_later : (a b : Mark) → stands_before a b ≡ true → a.span.start ≤ b.span.start
 starts_no_later a b before = grind (arith, nat_tests)
 
--- of two that start in order and stand out of order both start there
+-- two decorations whose starts were in order and that are out of order now both start in that range
 cross_two : (v : Carried) (a b : KeptMark) → is_mark a → is_mark b → NoLater a b → stands_before (as_mark b) (as_mark a) ≡ true → Starts v b → LiesIn v.first v.last a × LiesIn v.first v.last b
 cross_two v a b (h, ends, l) (g, ends2, l2) le before (low, high) =
     let first = grounded a.start h in let second = grounded b.start g in let back = starts_no_later (as_mark b) (as_mark a) before in
@@ -128,7 +128,7 @@ cross_met v (e ∷ es) (h, hs) (r, rs) =
       cross_met w es hs rs,
     )
 
--- All go with their lines.
+-- All decorations are carried along with their lines.
 
 all_carried : (v : Carried) (es : List (ℕ × KeptMark)) → rewritten_all carried_by onward_of v es ≡ changed_items (carried_mark v.lines) es
 all_carried v [] = refl
@@ -172,7 +172,7 @@ module _ (lines : List LineMove) (are : AreLineMoves lines) where
   values_carried v es is h =
       let new = subst AreMarks (sym (carried_is v es is)) (carried_marks es h) in (new, sum_low (rewritten_all carried_by onward_of v es) new)
 
-  -- where those lie that came to stand out of order
+  -- decorations that are out of order afterwards lie in the recorded range
   pub cross_carried : (v after : Carried) (es : List (ℕ × KeptMark)) → v.lines ≡ lines → after ≡ onward_all carried_by onward_of v es → AreMarks es → IsInOrder (marks_of es)
       → CrossIn after.first after.last (changed_items (carried_mark lines) es)
   cross_carried v after es is goes h ordered =

@@ -1,4 +1,4 @@
--- Ends in eight bytes: the least number of 64 bits, which no end is, stands for none.
+-- Ends in eight bytes: a missing end is encoded as the least 64-bit number, which no end is.
 use Rattle.std.specs.Prelude.{◌≡◌, ℤ, pos, ◌-ℤ◌, ◌^◌, cond, Bool, true, false, Option, Some, None, refl}
 use Rattle.std.specs.Ordering.{int_eq}
 use Rattle.std.proofs.Common.{sym}
@@ -7,7 +7,7 @@ use Rattle.std.proofs.lemmas.Bool.Decides.{Decides-int_eq}
 abbrev pub least : ℤ
 least = pos 0 -ℤ pos (2 ^ 63)
 
--- the end that a number stands for, and the number that stands for it
+-- decodes a number as an end, and encodes an end as a number
 abbrev pub end_of : ℤ → Option ℤ
 end_of n = cond (int_eq n least) None (Some n)
 

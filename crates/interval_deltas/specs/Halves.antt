@@ -1,8 +1,8 @@
--- A number of 64 bits in two halves.
+-- A 64-bit number in two halves.
 use Rattle.std.specs.Prelude.{◌≡◌, ℕ, ◌+◌, ◌*◌, ◌/◌, ◌%◌, ◌^◌, ◌<◌}
 use Rattle.std.proofs.Common.{arith}
 
--- the number that two halves make, and the halves of a number
+-- the number with the given halves, and the halves of a number
 abbrev pub joined : ℕ → ℕ → ℕ
 joined high low = high * 2 ^ 32 + low
 

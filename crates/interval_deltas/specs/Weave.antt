@@ -1,4 +1,4 @@
--- The weave of decorations: the greatest end, and shifts of starts and ends.
+-- The weave of decorations: the sum is the greatest end, and shifts move starts and ends.
 use Rattle.std.specs.Prelude.{◌^◌, ℤ, pos, ◌+ℤ◌, ◌-ℤ◌, ◌≤ℤ◌, ◌<ℤ◌, int_lt, cond, Bool, false, not, Option, Some, None, IfSome, if◌then◌else◌}
 use Rattle.std.specs.Int.{int_max}
 use Rattle.std.specs.Ordering.{int_cmp, nat_cmp, ordering_then}
@@ -15,7 +15,7 @@ use Rattle.interval_deltas.specs.declared.weave.Sought.TheVariants as sought
 abbrev pub limit : ℤ
 limit = pos (2 ^ 62)
 
--- the greater of two ends, where there are two
+-- the greater of two ends; a missing one is less than any other
 abbrev pub later : Option ℤ → Option ℤ → Option ℤ
 later None b = b
 later (Some x) None = Some x
@@ -52,7 +52,7 @@ is_end s = IfSome s (λ x. pos 0 ≤ℤ x)
 abbrev pub is_near : ℤ → Type 0
 is_near b = (pos 0 <ℤ (b +ℤ limit)) × (b <ℤ limit)
 
--- a reach is the greatest size of a shift
+-- a reach bounds the absolute value of shifts
 abbrev pub is_within : ℤ → ℤ → Type 0
 is_within r b = (pos 0 ≤ℤ (r +ℤ b)) × (b ≤ℤ r) × (r <ℤ limit)
 
@@ -62,7 +62,7 @@ size_of b = int_max b (pos 0 -ℤ b)
 abbrev pub wider : ℤ → ℤ → Option ℤ
 wider r b = cond (int_lt r (pos 0)) None (cond (int_lt (r +ℤ size_of b) limit) (Some (r +ℤ size_of b)) None)
 
--- by start, then by end, then by id
+-- compares by start, then by end, then by id
 abbrev pub placed : KeptMark → Place → Ordering
 placed m p = ordering_then (ordering_then (int_cmp m.start p.start) (int_cmp m.end p.end)) (nat_cmp m.label.id p.id)
 
@@ -74,12 +74,12 @@ toward Greater = Left
 abbrev pub place_turn : Place → KeptMark → Turn
 place_turn p m = toward (placed m p)
 
--- an end before is at the offset or after it
+-- the end is at the offset or after it; false if it is missing
 abbrev pub reaches : ℤ → Option ℤ → Bool
 reaches offset None = false
 reaches offset (Some end) = not (int_lt end offset)
 
--- to the first that ends at the offset or later
+-- the turn towards the first decoration that ends at the offset or later
 abbrev pub reaching_turn : ℤ → Option ℤ → ℤ → Turn
 reaching_turn offset before end = if reaches offset before then Left else (if reaches offset (Some end) then Stop else Right)
 

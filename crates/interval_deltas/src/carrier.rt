@@ -1,4 +1,4 @@
-//! Decorations go with their lines where they stand.
+//! Carries decorations along with their lines, each in its node.
 ghost use Rattle.std.specs.Prelude.{◌≡◌};
 ghost use Rattle.decoration_rules.specs.Lines.{AreLineMoves};
 ghost use Rattle.interval_deltas.specs.Weave.{is_mark};
@@ -13,13 +13,14 @@ use decoration_rules::LineMove;
 use rb_rules::Rewriting;
 use std::marker::Model;
 
-/// What carries decorations with their lines, and sees where one comes to stand before another that it stood behind.
+/// Carries decorations along with their lines, and records the starts of those that come to lie before an earlier one.
 #[derive(Drop)]
 pub(crate) struct Carrier<'a> {
     lines: Lines<'a>,
-    /// The greatest place of those that were carried.
+    /// The greatest place of the decorations carried so far.
     greatest: Place,
-    /// The least and the greatest start of those that came to stand before another; the limit and 0 as long as none did.
+    /// The least and the greatest start of the decorations that came to lie before an earlier one; `LIMIT` and 0 if
+    /// there is none so far.
     first: i64,
     last: i64,
 }
@@ -52,7 +53,8 @@ impl<'a> Carrier<'a> {
         }
     }
 
-    /// Between which starts those lie that came to stand before another.
+    /// Returns the least and the greatest start of the decorations that came to lie before an earlier one; `LIMIT` and
+    /// 0 if there is none.
     pub(crate) fn crossed(&self) -> (i64, i64)
         ensures first { result.0 ≡ self.now.first }
         ensures last { result.1 ≡ self.now.last }
@@ -60,7 +62,7 @@ impl<'a> Carrier<'a> {
         (self.first, self.last)
     }
 
-    /// One was carried.
+    /// Records a carried decoration.
     fn meet(&mut self, mark: &KeptMark)
         requires { is_mark mark.now }
         ensures { self.new ≡ met self.old mark.now }

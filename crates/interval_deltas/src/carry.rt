@@ -1,4 +1,4 @@
-//! How the decorations of a tree go with their lines.
+//! Carries the decorations of a tree along with their lines.
 ghost use Rattle.std.specs.Prelude.{◌≡◌, [], length};
 ghost use Rattle.std.specs.List.Sorted.{IsPermutation};
 ghost use Rattle.decoration_rules.specs.Lines.{AreLineMoves, carried_mark};
@@ -11,7 +11,7 @@ use crate::weave::Marks;
 use decoration_rules::LineMove;
 use rb_arena::RbTree;
 
-/// Carries the decorations, of which there are `count`, with their lines, and puts them in order.
+/// Carries all `count` decorations along with their lines and sorts them.
 pub(crate) fn carry_in_order(tree: &mut RbTree<Marks>, count: u64, moves: &[LineMove])
     requires count { count ≡ length tree.old.items }
     requires lines { AreLineMoves moves.now }

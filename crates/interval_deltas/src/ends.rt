@@ -1,11 +1,12 @@
-//! The ends of decorations, as nodes keep them.
+//! The ends of decorations, as nodes store them.
 ghost use Rattle.std.specs.Prelude.{◌≡◌, ◌<ℤ◌, Some, None, IsTrue};
 ghost use Rattle.interval_deltas.specs.Ends.{least};
 ghost use Rattle.interval_deltas.specs.Weave.{later, reaches};
 
 use std::marker::Model;
 
-/// The end of a decoration. It is never the least number, so that a `Greatest` has that for no end. A contract sees it as the number.
+/// The end of a decoration. It is never `i64::MIN`, which a `Greatest` uses for a missing end. In contracts it is the
+/// number.
 #[derive(Clone, Copy)]
 pub struct End {
     offset: i64,
@@ -32,7 +33,7 @@ impl End {
         End { offset }
     }
 
-    /// The number that it is.
+    /// Returns the end as a number.
     pub(crate) fn offset(self) -> i64
         ensures { result ≡ self }
     {
@@ -40,10 +41,11 @@ impl End {
     }
 }
 
-/// The greatest end of some decorations, or none, in eight bytes. A contract sees it as that.
+/// The greatest end of some decorations, missing if there are none, in eight bytes. In contracts it is an optional
+/// number.
 #[derive(Clone, Copy)]
 pub struct Greatest {
-    /// The end, or the least number for none.
+    /// The end, or `i64::MIN` if it is missing.
     offset: i64,
 }
 
@@ -76,7 +78,7 @@ impl Greatest {
         Greatest { offset: end.offset }
     }
 
-    /// The end, if there is one.
+    /// Returns the end; None if it is missing.
     pub(crate) fn end(self) -> Option<i64>
         ensures { result ≡ self }
     {
@@ -87,14 +89,14 @@ impl Greatest {
         }
     }
 
-    /// Whether the two are one.
+    /// Returns whether both are equal.
     pub(crate) fn is(self, other: Greatest) -> bool
         ensures { IsTrue result → self ≡ other }
     {
         self.offset == other.offset
     }
 
-    /// The greater of two. None lies below each end, as its number does.
+    /// Returns the greater of the two ends. A missing end is below every other, as `i64::MIN` is.
     pub(crate) fn later(self, other: Greatest) -> Greatest
         ensures { result ≡ later self other }
     {
@@ -103,7 +105,7 @@ impl Greatest {
         }
     }
 
-    /// Whether it lies at an offset or after it.
+    /// Returns whether the end is at the offset or after it; false if the end is missing.
     pub(crate) fn reaches(self, offset: i64) -> bool
         ensures { result ≡ reaches offset self }
     {

@@ -1,9 +1,10 @@
-//! Numbers of 64 bits that lie at four bytes.
+//! 64-bit numbers with an alignment of four bytes.
 ghost use Rattle.std.specs.Prelude.{◌≡◌};
 
 use std::marker::Model;
 
-/// A number of 64 bits in two halves: beside one of 32 bits it leaves no gap. A contract sees it as the number.
+/// A 64-bit number in two 32-bit halves, so that no padding is needed beside a 32-bit field. In contracts it is the
+/// number.
 #[derive(Clone, Copy)]
 pub(crate) struct Halves {
     high: u32,

@@ -1,4 +1,4 @@
-//! Decorations as contracts show them, and as a tree keeps them.
+//! Converts decorations between the form that contracts show and the form that a tree stores.
 ghost use Rattle.std.specs.Prelude.{◌≡◌, ◌<◌, ◌≤◌};
 ghost use Rattle.decoration_rules.specs.Moves.{offset_limit, moved_mark};
 ghost use Rattle.interval_deltas.specs.Weave.{is_mark};
@@ -10,7 +10,7 @@ use crate::weave::{KeptMark, LIMIT, Label, Place};
 use decoration_rules::{Edit, Mark};
 use text_lengths::Span;
 
-/// An offset as a tree has it: at most the limit, which no decoration reaches.
+/// Caps an offset at `LIMIT`. No decoration reaches `LIMIT`.
 pub(crate) fn capped(offset: u64) -> i64
     ensures { result ≡ capped offset }
 {
@@ -52,7 +52,7 @@ impl KeptMark {
         }
     }
 
-    /// Where it stands in the order.
+    /// Returns the place of the decoration in the order.
     pub(crate) fn place(&self) -> Place
         ensures { result ≡ place_of self.now }
     {
@@ -63,7 +63,7 @@ impl KeptMark {
         }
     }
 
-    /// Where it is after the edit.
+    /// Returns the decoration as it is after the edit.
     pub(crate) fn moved(&self, edit: &Edit) -> KeptMark
         requires value { is_mark self.now }
         requires upright { edit.now.start ≤ edit.now.end }

@@ -1,4 +1,4 @@
-//! How decorations move, and the tree of them, in order of where they stand.
+//! How decorations move under an edit, and a balanced tree that keeps them in order of position.
 #![tactic(auto)]
 
 mod accept;

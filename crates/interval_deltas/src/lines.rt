@@ -1,4 +1,4 @@
-//! Spans go with their lines.
+//! Carries spans along with their lines.
 ghost use Rattle.std.specs.Prelude.{◌≡◌, ◌≤◌, ◌<◌};
 ghost use Rattle.decoration_rules.specs.Moves.{offset_limit};
 ghost use Rattle.decoration_rules.specs.Lines.{AreLineMoves, carried_place, carried_span};
@@ -8,11 +8,11 @@ use decoration_rules::LineMove;
 use std::marker::Model;
 use text_lengths::Span;
 
-/// Lines that start elsewhere now.
+/// The old and new starts of lines, and the line of the last look-up.
 #[derive(Drop)]
 pub(crate) struct Lines<'a> {
     moves: &'a [LineMove],
-    /// The line in which the last span started.
+    /// The index of the line in which the last span started; 0 at first.
     last: usize,
 }
 
@@ -36,8 +36,8 @@ impl<'a> Lines<'a> {
         Lines { moves, last: 0 }
     }
 
-    /// Where a span stands now. No line is looked at in front of the one in which the last span started, if this one starts there or
-    /// behind.
+    /// Returns the new position of a span. If the span starts in the line in which the last one started, or after it,
+    /// no earlier line is read.
     pub(crate) fn carried(&mut self, span: Span) -> Span
         requires { span.start ≤ span.end }
         ensures span { result ≡ carried_span self.old span }
@@ -55,7 +55,7 @@ impl<'a> Lines<'a> {
         }
     }
 
-    /// A line that had started by this place: that of the last start, or the first of all.
+    /// Returns the index of a line that starts at `place` or earlier: the line in which the last span started, or 0.
     fn started_by(&self, place: u64) -> usize
         ensures { HasStarted self.now place result }
     {
@@ -67,7 +67,7 @@ impl<'a> Lines<'a> {
     }
 }
 
-/// The line of a place, which that line or a later one is. It goes from one to the next.
+/// Finds the line of a place by a linear search from the line `from`, which starts at the place or earlier.
 fn line_from(moves: &[LineMove], from: usize, place: u64) -> usize
     requires lines { AreLineMoves moves.now }
     requires from { HasStarted moves.now place from }
@@ -81,7 +81,7 @@ fn line_from(moves: &[LineMove], from: usize, place: u64) -> usize
     moves.len() - 1
 }
 
-/// The same by halves.
+/// Finds the line of a place by a binary search from the line `from`, which starts at the place or earlier.
 fn far_line_from(moves: &[LineMove], from: usize, place: u64) -> usize
     requires lines { AreLineMoves moves.now }
     requires from { HasStarted moves.now place from }
@@ -90,7 +90,7 @@ fn far_line_from(moves: &[LineMove], from: usize, place: u64) -> usize
     from + moves[from + 1..].partition_point(|line| line.old <= place)
 }
 
-/// Where a place of that line stands now.
+/// Returns the new position of a place in the line `at`. A place after the content of the line goes to its end.
 fn carried(moves: &[LineMove], at: usize, place: u64) -> u64
     requires lines { AreLineMoves moves.now }
     requires line { IsLineAt moves.now place at }

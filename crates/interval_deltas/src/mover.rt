@@ -1,4 +1,4 @@
-//! Decorations that an edit touches move where they stand.
+//! Moves the decorations that an edit touches, each in its node.
 ghost use Rattle.std.specs.Prelude.{◌≡◌, ◌≤◌, false, true};
 ghost use Rattle.decoration_rules.specs.Marks.{stands_before};
 ghost use Rattle.interval_deltas.specs.Weave.{is_mark};
@@ -12,14 +12,14 @@ use decoration_rules::Edit;
 use rb_rules::Rewriting;
 use std::marker::Model;
 
-/// What moves those that an edit touches, and sees whether one of them comes to stand before another that it stood behind.
+/// Moves the decorations that an edit touches, and records whether one of them comes to lie before an earlier one.
 #[derive(Drop)]
 pub(crate) struct Mover {
     edit: Edit,
-    /// The greatest place of those that moved.
+    /// The greatest place of the decorations moved so far.
     greatest: Place,
     in_order: bool,
-    /// One was seen that starts behind the edit.
+    /// Whether a decoration was met that starts after the edit.
     past: bool,
 }
 
@@ -52,14 +52,14 @@ impl Mover {
         }
     }
 
-    /// Whether none came to stand before another that it stood behind.
+    /// Returns whether no moved decoration came to lie before an earlier one.
     pub(crate) fn in_order(&self) -> bool
         ensures { result ≡ self.now.in_order }
     {
         self.in_order
     }
 
-    /// One has moved.
+    /// Records a moved decoration.
     fn meet(&mut self, mark: &KeptMark)
         requires { is_mark mark.now }
         ensures { self.new ≡ met self.old mark.now }
@@ -72,7 +72,7 @@ impl Mover {
     }
 }
 
-/// Whether a decoration stands before a place.
+/// Returns whether a decoration is before a place.
 #[tactic(auto, using(crate::proofs::Searches::order_is))]
 pub(crate) fn stands_below(mark: &KeptMark, place: &Place) -> bool
     requires value { is_mark mark.now }

@@ -6,7 +6,7 @@ ghost use Rattle.decoration_rules.specs.Moves.{offset_limit, start_sticks, end_s
 use decoration_rules::{Edit, Mark, Sticky};
 use text_lengths::Span;
 
-/// Where a decoration stands after the edit.
+/// Returns the span of a decoration after the edit.
 pub fn moved(span: Span, sticky: Sticky, collapse: bool, edit: &Edit) -> Span
     requires upright { edit.now.start ≤ edit.now.end }
     requires fits { (moved span sticky collapse edit.now).end < offset_limit }
@@ -26,7 +26,7 @@ pub fn moved(span: Span, sticky: Sticky, collapse: bool, edit: &Edit) -> Span
     }
 }
 
-/// Whether the start of a decoration sticks to the text before it.
+/// Returns whether the start of a decoration sticks to the text before it.
 fn start_sticks(sticky: Sticky) -> bool
     ensures { result ≡ start_sticks sticky }
 {
@@ -36,7 +36,7 @@ fn start_sticks(sticky: Sticky) -> bool
     }
 }
 
-/// Whether the end of a decoration sticks to the text before it.
+/// Returns whether the end of a decoration sticks to the text before it.
 fn end_sticks(sticky: Sticky) -> bool
     ensures { result ≡ end_sticks sticky }
 {
@@ -46,7 +46,7 @@ fn end_sticks(sticky: Sticky) -> bool
     }
 }
 
-/// Where a start or an end stands after the edit, by whether it sticks to the text before it.
+/// Returns the offset of a start or an end after the edit; `sticks` says whether it sticks to the text before it.
 fn moved_offset(sticks: bool, offset: u64, edit: &Edit) -> u64
     requires upright { edit.now.start ≤ edit.now.end }
     requires fits { moved_offset sticks offset edit.now < offset_limit }
@@ -67,7 +67,7 @@ fn moved_offset(sticks: bool, offset: u64, edit: &Edit) -> u64
     offset - removed + edit.units
 }
 
-/// Whether the offset stands before the place, or right there where it stays.
+/// Returns whether the offset is before the place, or at the place if `stays` is set.
 fn stays_before(offset: u64, place: u64, stays: bool) -> bool
     ensures { result ≡ (nat_lt offset place || (offset == place && stays)) }
 {

@@ -1,4 +1,4 @@
-//! The nodes of decorations, by their ids.
+//! Maps the ids of decorations to their nodes.
 ghost use Rattle.std.specs.Prelude.{◌≡◌, [], ◌+◌, ◌<◌, ◌≤◌, Some, None, OnOk, IsSome, MatchResult, count_by, length, take, insert, filter};
 ghost use Rattle.interval_deltas.specs.Names.{entry_of, node_of, HasNode, IsById, StandsAt, BelongsAt, is_named};
 ghost use Rattle.paged_list.specs.List.{paged};
@@ -10,7 +10,7 @@ use std::alloc::{AllocError, Global};
 use std::cmp::Ordering;
 use std::marker::Model;
 
-/// The node of a decoration, in twelve bytes; none where it was taken out.
+/// The id and the node of a decoration, in twelve bytes. The node is missing after the decoration was removed.
 #[derive(Clone, Copy)]
 pub(crate) struct Entry {
     id: Halves,
@@ -28,14 +28,14 @@ impl Entry {
     }
 }
 
-/// From an id to its node. An id above all others is put last and moves no entry, nor does a removal, which leaves an entry
-/// without a node. Once these are as many as the others, a removal sweeps them out: it goes over the whole list, which is
-/// some four steps for each removal since the last sweep, but all of them in this one.
+/// Maps ids to nodes. An id above all others is appended and moves no entry. A removal moves none either: it leaves an
+/// entry without a node. Once as many entries are without a node as have one, a removal sweeps them out. A sweep passes
+/// over the whole list, which is some four steps for each removal since the last sweep, but all of them in this one.
 #[derive(Drop)]
 pub(crate) struct Names {
-    /// By id.
+    /// Sorted by id.
     entries: PagedList<Entry>,
-    /// How many have no node.
+    /// The number of entries without a node.
     dead: usize,
 }
 
@@ -64,7 +64,7 @@ impl Names {
         }
     }
 
-    /// Makes room for `count` more ids. It fails where memory is short.
+    /// Makes room for `count` more ids. Fails if memory is short.
     pub(crate) fn reserve(&mut self, count: u64) -> Result<(), AllocError>
         ensures room { OnOk result (count ≤ self.new.spare) }
         ensures same { self.new.entries ≡ self.old.entries }
@@ -73,14 +73,14 @@ impl Names {
         self.entries.reserve(count as usize)
     }
 
-    /// How many ids have a node.
+    /// Returns the number of ids with a node.
     pub(crate) fn len(&self) -> usize
         ensures { result ≡ count_by is_named self.now.entries }
     {
         self.entries.len() - self.dead
     }
 
-    /// The node of this id.
+    /// Returns the node of an id; None if it has none.
     pub(crate) fn find(&self, id: u64) -> Option<NodeId>
         ensures { result ≡ node_of self.now.entries id }
     {
@@ -90,7 +90,7 @@ impl Names {
         }
     }
 
-    /// The id, which has no node, has this one now.
+    /// Sets the node of an id that has none.
     pub(crate) fn put(&mut self, id: u64, node: NodeId)
         requires room { 0 < self.old.spare }
         requires new { node_of self.old.entries id ≡ None }
@@ -109,7 +109,7 @@ impl Names {
         }
     }
 
-    /// The id has its node no longer.
+    /// Removes the node of an id.
     pub(crate) fn forget(&mut self, id: u64)
         requires { IsSome (node_of self.old.entries id) }
         ensures node { HasNode self.old.entries self.new.entries id None }
@@ -130,7 +130,7 @@ impl Names {
     }
 }
 
-/// Where the entry of an id stands, or where it would.
+/// Finds the index of the entry of an id; if there is none, Err with the index to insert it at.
 fn search(entries: &PagedList<Entry>, id: u64) -> Result<usize, usize>
     requires { IsById entries.now.items }
     ensures { MatchResult result
@@ -149,7 +149,7 @@ fn search(entries: &PagedList<Entry>, id: u64) -> Result<usize, usize>
     Err(low)
 }
 
-/// Puts an entry before those from `at` on, which move up by one.
+/// Inserts an entry at index `at`. The entries from `at` on move up by one.
 fn insert_at(entries: &mut PagedList<Entry>, at: usize, entry: Entry)
     requires place { at ≤ length entries.old.items }
     requires room { length entries.old.items < entries.old.capacity }
@@ -164,7 +164,7 @@ fn insert_at(entries: &mut PagedList<Entry>, at: usize, entry: Entry)
     entries.push(moved);
 }
 
-/// Takes those out that have no node.
+/// Removes the entries without a node.
 fn sweep(entries: &mut PagedList<Entry>)
     ensures { entries.new ≡ paged (filter is_named entries.old.items) entries.old.capacity }
 {
@@ -174,7 +174,7 @@ fn sweep(entries: &mut PagedList<Entry>)
     }
 }
 
-/// Moves those that have a node to the front, in their order, and tells how many there are.
+/// Moves the entries with a node to the front, in their order, and returns their number.
 fn gather(entries: &mut PagedList<Entry>) -> usize
     ensures items { take result entries.new.items ≡ filter is_named entries.old.items }
     ensures count { result ≤ length entries.new.items }

@@ -1,4 +1,4 @@
-//! Searches in the tree, which nobody counts.
+//! Searches in the tree, without a count of their steps.
 ghost use Rattle.rb_arena.specs.Searching.{Found};
 ghost use Rattle.rb_arena.specs.RbTree.{AtItem, IsItem};
 ghost use Rattle.decoration_rules.specs.Marks.{IsInOrder};
@@ -17,7 +17,7 @@ fn search(tree: &RbTree<Marks>, sought: Sought) -> Option<(NodeId, KeptMark, Gre
     tree.descend(sought, &mut Steps::new())
 }
 
-/// The same among the decorations after that one.
+/// Searches among the decorations after the node `id`.
 fn search_after(
     tree: &RbTree<Marks>,
     id: NodeId,
@@ -29,7 +29,7 @@ fn search_after(
     tree.descend_after(id, sought, &mut Steps::new())
 }
 
-/// The last decoration that stands before a place.
+/// Finds the last decoration before a place.
 pub(crate) fn last_before(tree: &RbTree<Marks>, place: Place) -> Option<NodeId>
     requires values { AreMarks tree.now.items }
     requires ordered { IsInOrder (marks_of tree.now.items) }
@@ -44,14 +44,14 @@ pub(crate) fn last_before(tree: &RbTree<Marks>, place: Place) -> Option<NodeId>
     }
 }
 
-/// The first decoration that ends at the offset or later.
+/// Finds the first decoration that ends at the offset or later.
 pub(crate) fn first_reaching(tree: &RbTree<Marks>, offset: i64) -> Option<(NodeId, KeptMark)>
     ensures { FirstReaching offset tree.now.items result }
 {
     reached(search(tree, Sought::Reaching(offset)), offset)
 }
 
-/// The first decoration after that one that ends at the offset or later.
+/// Finds the first decoration after the node `id` that ends at the offset or later.
 pub(crate) fn reaching_after(
     tree: &RbTree<Marks>,
     id: NodeId,
@@ -63,7 +63,7 @@ pub(crate) fn reaching_after(
     reached(search_after(tree, id, Sought::Reaching(offset)), offset)
 }
 
-/// What a search for the offset ended at, if that reaches the offset.
+/// Returns the decoration at which a search for the offset ended, if it ends at the offset or later.
 fn reached(found: Option<(NodeId, KeptMark, Greatest)>, offset: i64) -> Option<(NodeId, KeptMark)>
     ensures { ShowsFirst offset found result }
 {

@@ -1,4 +1,4 @@
-//! The decorations of a document, in order of where they stand.
+//! The decorations of a document, in order of position.
 
 ghost use Rattle.std.specs.Prelude.{◌≡◌, ◌+◌, ◌<◌, ◌≤◌, ◌++◌, ◌∷◌, [], true, false, length, map, take, vec_len, OnOk, OnErr};
 ghost use Rattle.std.specs.List.{All};
@@ -22,10 +22,11 @@ use std::alloc::{AllocError, Global};
 use std::marker::Model;
 use text_lengths::Span;
 
-/// The decorations of a document, by start, then by end, then by id. Only `reserve` and `search` take memory.
+/// The decorations of a document, sorted by start, then by end, then by id. Only `reserve` and `search` allocate
+/// memory.
 #[derive(Drop)]
 pub struct IntervalTree {
-    /// By start, then by end, then by id.
+    /// Sorted by start, then by end, then by id.
     tree: RbTree<Marks>,
     names: Names,
 }
@@ -55,14 +56,15 @@ impl IntervalTree {
         }
     }
 
-    /// How many decorations there are.
+    /// Returns the number of decorations.
     pub fn len(&self) -> u64
         ensures { result ≡ length self.now.marks }
     {
         self.names.len() as u64
     }
 
-    /// Makes room for `n` more decorations. An error leaves the list as it was, and room that was there stays.
+    /// Makes room for `n` more decorations. Also after an error the decorations are unchanged and room that was there
+    /// stays.
     pub fn reserve(&mut self, n: u64) -> Result<(), AllocError>
         ensures room { OnOk result (n ≤ self.new.spare) }
         ensures marks { self.new.marks ≡ self.old.marks }
@@ -72,7 +74,7 @@ impl IntervalTree {
         self.names.reserve(n)
     }
 
-    /// Puts a decoration in, whose id is new.
+    /// Inserts a decoration, whose id is new.
     pub fn insert(&mut self, mark: Mark)
         requires room { 0 < self.old.spare }
         requires new { is_live self.old.marks mark.id ≡ false }
@@ -84,12 +86,12 @@ impl IntervalTree {
         let kept = KeptMark::of(&mark);
         let at = last_before(&self.tree, kept.place());
         let node = insert_behind(&mut self.tree, at, kept);
-        // What stands before it tells that no other has its name.
+        // The contract of `prev` shows that no other decoration has this node.
         let _before = self.tree.prev(node);
         self.names.put(mark.id, node);
     }
 
-    /// Takes the decoration of this id out.
+    /// Removes the decoration with this id.
     pub fn remove(&mut self, id: u64)
         requires { is_live self.old.marks id ≡ true }
         ensures marks { self.new.marks ≡ without id self.old.marks }
@@ -102,7 +104,7 @@ impl IntervalTree {
         self.names.forget(id);
     }
 
-    /// Each decoration moves, as the text under it is edited.
+    /// Moves each decoration under an edit of the text.
     pub fn accept(&mut self, edit: &Edit)
         requires upright { edit.now.start ≤ edit.now.end }
         requires fits { All (λ mark. (moved_mark edit.now mark).span.end < offset_limit)
@@ -114,7 +116,7 @@ impl IntervalTree {
         move_in_order(&mut self.tree, count, edit);
     }
 
-    /// Each decoration goes with its lines, as where the line endings of the text change their kind.
+    /// Carries each decoration along with its lines, as when the line endings of the text change their kind.
     pub fn carry(&mut self, moves: &[LineMove])
         requires { AreLineMoves moves.now }
         ensures carried { self.new.marks ≡ carried_with_lines moves.now self.old.marks }
@@ -124,7 +126,7 @@ impl IntervalTree {
         carry_in_order(&mut self.tree, count, moves);
     }
 
-    /// The decoration of this id.
+    /// Returns the decoration with this id; None if there is none.
     pub fn place(&self, id: u64) -> Option<Mark>
         ensures { result ≡ mark_of self.now.marks id }
     {
@@ -132,7 +134,7 @@ impl IntervalTree {
         Some(self.tree.get(node).mark())
     }
 
-    /// Appends the decorations that share a unit with the span, or touch it. After an error `out` is as it was.
+    /// Appends the decorations that share a unit with the span or touch it to `out`. After an error `out` is unchanged.
     pub fn search(&self, span: Span, out: &mut Vec<Mark>) -> Result<(), AllocError>
         ensures ok { OnOk result (out.new.items ≡ out.old.items ++ touching span self.now.marks) }
         ensures err { OnErr result (out.new.items ≡ out.old.items) }
@@ -146,7 +148,7 @@ impl IntervalTree {
     }
 }
 
-/// Puts a decoration right after another, or before all.
+/// Inserts a decoration right after the node `id`, or before all others if `id` is None.
 fn insert_behind(tree: &mut RbTree<Marks>, id: Option<NodeId>, mark: KeptMark) -> NodeId
     requires room { 0 < tree.old.spare }
     requires named { PlaceAfter tree.old.items id }
@@ -163,7 +165,8 @@ fn insert_behind(tree: &mut RbTree<Marks>, id: Option<NodeId>, mark: KeptMark) -
     }
 }
 
-// There are `count` in the tree. After an error some of them stand behind what was there.
+// Appends the decorations that touch the span. The tree holds `count` of them. After an error some may have been
+// appended.
 fn push_touching(
     tree: &RbTree<Marks>,
     count: u64,

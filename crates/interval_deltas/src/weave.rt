@@ -1,4 +1,4 @@
-//! What a tree keeps of its decorations, and how it is searched.
+//! What a tree stores of its decorations, and how it is searched.
 ghost use Rattle.std.specs.Prelude.{◌≡◌};
 ghost use Rattle.interval_deltas.specs.Weave.{placed, place_turn, reaching_turn};
 
@@ -7,7 +7,7 @@ use decoration_rules::Sticky;
 use rb_rules::{Turn, Weave};
 use std::cmp::Ordering;
 
-/// What no edit changes of a decoration.
+/// The part of a decoration that no edit changes.
 #[derive(Clone, Copy)]
 pub struct Label {
     pub id: u64,
@@ -16,7 +16,7 @@ pub struct Label {
     pub collapse: bool,
 }
 
-/// A decoration as a node keeps it: less the shifts of its path.
+/// A decoration as a tree stores it. In a node, its offsets lack the shifts on the path to the node.
 #[derive(Clone, Copy)]
 pub struct KeptMark {
     pub start: i64,
@@ -32,22 +32,22 @@ pub struct Place {
     pub id: u64,
 }
 
-/// What a search looks for.
+/// The target of a search.
 #[derive(Clone, Copy)]
 pub enum Sought {
-    /// The decoration that stands there.
+    /// The decoration at this place.
     Place(Place),
-    /// The first decoration that ends there or later.
+    /// The first decoration that ends at this offset or later.
     Reaching(i64),
 }
 
-/// Decorations, whose starts and ends move by shifts, with their greatest end.
+/// The weave of decorations: a shift moves their starts and ends, and the sum is their greatest end.
 pub struct Marks;
 
-/// The offsets of a decoration, and what the shifts on a path come to, lie below it.
+/// The exclusive upper bound of the offsets of decorations, and of the sum of the shifts on a path.
 pub(crate) const LIMIT: i64 = 1 << 62;
 
-/// How a decoration stands to a place: by start, then by end, then by id.
+/// Compares a decoration with a place: by start, then by end, then by id.
 pub(crate) fn placed(mark: &KeptMark, place: &Place) -> Ordering
     ensures { result ≡ placed mark.now place.now }
 {
@@ -57,7 +57,7 @@ pub(crate) fn placed(mark: &KeptMark, place: &Place) -> Ordering
         .then(mark.label.id.cmp(&place.id))
 }
 
-/// Where a search for a place goes from a decoration.
+/// Returns the turn that a search for a place takes at a decoration.
 fn place_turn(place: &Place, mark: &KeptMark) -> Turn
     ensures { result ≡ place_turn place.now mark.now }
 {
@@ -68,7 +68,8 @@ fn place_turn(place: &Place, mark: &KeptMark) -> Turn
     }
 }
 
-/// Where a search for the first that reaches an offset goes, by the greatest end before a decoration and by its own.
+/// Returns the turn that a search for the first decoration that ends at `offset` or later takes at a decoration.
+/// `before` is the greatest end before that decoration, `end` its own end.
 fn reaching_turn(offset: i64, before: Greatest, end: i64) -> Turn
     ensures { result ≡ reaching_turn offset before end }
 {

@@ -54,7 +54,7 @@ longer-marks front gap back more last new =
     subst (λ runs. marks_around front (longer gap more) runs ≡ marks_around front gap runs ++ replicate more New) (sym last)
     (longer-last front gap more new)
 
--- The kept numbers rise, whatever new lines come behind.
+-- The kept numbers increase also with new lines appended.
 
 GoesOn-behind : (i lines : ℕ) (marks : List Mark) → GoesOn i marks → GoesOn i (marks ++ replicate lines New)
 GoesOn-behind i zero [] on = tt

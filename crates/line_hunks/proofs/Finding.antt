@@ -1,4 +1,4 @@
--- Where a search for a line ends, and where its item stands.
+-- The end of a search for a line, and the position of its item.
 use Rattle.std.proofs.Common.{◌≡◌, ℕ, ◌+◌, ◌-◌, ◌<◌, ◌≤◌, cond, ltb, Option, Some, List, [], ◌∷◌, ◌++◌, ◌⊎◌, inl, inr, refl, sym, ◌∙◌, ap, subst, arith}
 use Rattle.std.proofs.lemmas.Bool.{cases_lt, lt-ltb, le-ltb}
 use Rattle.std.proofs.lemmas.List.{append_assoc}
@@ -14,7 +14,7 @@ use Rattle.line_hunks.proofs.SideLaws.{lines_of, lines_of-append, runs_of-append
 
 -- A search for a line.
 
--- what each turn says of the line with so many before it
+-- the meaning of each turn for the line with `line` lines before it
 abbrev Means : Turn → ℕ → ℕ → Run → Type 0
 Means Left line before run = line < before
 Means Stop line before run = (before ≤ line) × (line < before + run.lines)
@@ -38,7 +38,7 @@ module _ (line : ℕ) where
   heard us x t says =
       subst (λ u. Means u line (lines_of us) x) (ap (λ n. run_turn line n x) (sym (sum_is us)) ∙ says) (means line (lines_of us) x)
 
-  -- the search ends where the line is, or at the last run, if all have too few
+  -- the search ends at the run of the line, or at the last run if there are too few lines
   ended : (us : List (ℕ × Run)) (id : ℕ) (x : Run) (vs : List (ℕ × Run)) → searching.EndsAt adding run_turn line us id x vs
       → (lines_of us ≤ line) × ((line < lines_of us + x.lines) ⊎ ((vs ≡ []) × (lines_of us + x.lines ≤ line)))
   ended us id x vs (inl stop) = let (low, high) = heard us x Stop stop in (low, inl high)
@@ -65,7 +65,7 @@ module _ (line : ℕ) where
         omega (arith, low, before),
       )
 
--- An item stands before the place where a list is parted, or behind it.
+-- An item lies before or after the point at which a list is split.
 
 pub beside : (us vs lower upper : List (ℕ × Run)) (y : ℕ × Run) → us ++ vs ≡ lower ++ y ∷ upper
     → ((ws : List (ℕ × Run)) × (us ≡ lower ++ y ∷ ws) × (upper ≡ ws ++ vs)) ⊎ ((ws : List (ℕ × Run)) × (lower ≡ us ++ ws) × (vs ≡ ws ++ y ∷ upper))

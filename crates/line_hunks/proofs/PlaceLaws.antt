@@ -14,7 +14,7 @@ use Rattle.line_hunks.specs.Runs.{marks_up, marks_down, marks_around, StandsBy, 
 use Rattle.line_hunks.specs.Places.{EndsNew, IsPlace}
 use Rattle.line_hunks.proofs.RunMarks.{length-marks_from, length-marks_up, marks_from-split}
 
--- Behind a kept run no line goes on.
+-- The line after a kept run does not continue its numbers.
 
 kept_run-new : (mark : Mark) (lines : ℕ) (marks : List Mark) → is_new mark ≡ true → 0 < lines → kept_run (marks_from mark lines ++ marks) ≡ 0
 kept_run-new mark zero marks is some = absurd (omega arith)
@@ -38,7 +38,7 @@ apart-down mark [] stands kept = refl
 apart-down mark (run ∷ runs) stands kept =
     kept_run-new run.first run.lines (marks_down runs) (not-mark (is_new run.first) (is_new mark) stands.0 kept) stands.1
 
--- Behind a new run no line is new.
+-- The line after a new run is not new.
 
 new_run-kept : (mark : Mark) (lines : ℕ) (marks : List Mark) → is_new mark ≡ false → 0 < lines → new_run (marks_from mark lines ++ marks) ≡ 0
 new_run-kept mark zero marks is some = absurd (omega arith)
@@ -49,7 +49,7 @@ ends-down : (mark : Mark) (runs : List Run) → StandsBy mark runs → is_new ma
 ends-down mark [] stands new = refl
 ends-down mark (run ∷ runs) stands new = new_run-kept run.first run.lines (marks_down runs) (stands.0 ∙ ap not new) stands.1
 
--- Before a kept run the last line is new.
+-- The last line before a kept run is new.
 
 EndsNew-new : (marks : List Mark) → EndsNew (marks ++ New ∷ [])
 EndsNew-new marks = get_or_at marks New [] New (length (marks ++ New ∷ []) - 1) (omega (arith, length-append marks (New ∷ [])))
@@ -82,7 +82,7 @@ gap-place front gap back n before stands line within = record {
   ends = ends-down gap.first back stands.behind;
 }
 
--- What a place tells.
+-- The marks around a place.
 
 marks_from-first : (mark : Mark) (lines : ℕ) → 0 < lines → marks_from mark lines ≡ mark ∷ marks_from (later_mark mark 1) (lines - 1)
 marks_from-first mark zero some = absurd (omega arith)
@@ -220,7 +220,7 @@ has_new-take n (suc k) (New ∷ marks) less within new = refl
 has_new-take zero (suc k) (Kept i ∷ marks) less within new = cc
 has_new-take (suc n) (suc k) (Kept i ∷ marks) less within new = has_new-take n k marks (omega arith) (omega arith) new
 
--- so many lines are kept, and the one behind them is new
+-- the first `kept` lines are kept, and the next one is new
 pub record FirstNew (marks : List Mark) (kept : ℕ) : Type 0 where
   pub within : kept < length marks
   pub new : mark_at (kept + 1) marks ≡ New
@@ -253,7 +253,7 @@ first-new marks place is stale =
     subst (λ ms. FirstNew ms (kept_lines place.run)) (sym parts)
     (FirstNew-run place.run.first place.run.lines is.upper (omega (arith, is.within)) is.apart (ap has_new (sym parts) ∙ stale))
 
--- so many last lines are kept, and the one before them is new
+-- the last `kept` lines are kept, and the one before them is new
 pub record LastNew (marks : List Mark) (kept : ℕ) : Type 0 where
   pub within : kept < length marks
   pub new : mark_at (length marks - kept) marks ≡ New

@@ -1,4 +1,4 @@
--- A run that is taken out.
+-- A run that is removed.
 use Rattle.std.proofs.Common.{◌≡◌, ℕ, ◌+◌, ◌-◌, ◌<◌, ◌≤◌, ◌^◌, Option, Some, None, List, [], ◌∷◌, ◌++◌, refl, sym, ◌∙◌, ap, subst, arith}
 use Rattle.std.proofs.lemmas.List.{append_assoc}
 use Rattle.rb_arena.specs.RbTree.{SplitsAt, EndsWith, IsItem, AtItem, AtPlace, first_or, last_or, LeavesOut}
@@ -22,7 +22,7 @@ parts-out items new us vs before lines id run splits some small out last count =
       small = omega (arith, small, ap lines_of splits, ap lines_of out, lines_of-append us ((id, run) ∷ vs), lines_of-append us vs);
     }
 
--- the item of that name is the first of these, which stand behind the others
+-- the item with the name is the first of `vs`, which follow the items `us`
 pub first-splits : (items us vs : List (ℕ × Run)) (id : ℕ) → items ≡ us ++ vs → Some id ≡ first_or None vs
     → (run : Run) × ((ws : List (ℕ × Run)) × (vs ≡ (id, run) ∷ ws) × SplitsAt items id us run ws)
 first-splits items us [] id whole first = cc
@@ -39,7 +39,7 @@ pub last-none : (us : List (ℕ × Run)) (before : Option ℕ) → EndsWith us b
 last-none us None ends is = ends
 last-none us (Some id) ends is = cc
 
--- the item of that name is the last of these, behind which the others stand
+-- the item with the name is the last of `us`, which the items `vs` follow
 pub last-splits : (items us vs : List (ℕ × Run)) (before : Option ℕ) (id : ℕ) → items ≡ us ++ vs → EndsWith us before → before ≡ Some id
     → (run : Run) × ((ws : List (ℕ × Run)) × (us ≡ ws ++ (id, run) ∷ []) × SplitsAt items id ws run vs)
 last-splits items us vs before id whole ends is =

@@ -1,4 +1,4 @@
--- A run that is put at the gap.
+-- A run that is inserted at the gap.
 use Rattle.std.proofs.Common.{◌≡◌, ℕ, ◌+◌, ◌<◌, ◌^◌, Option, Some, None, List, [], ◌∷◌, ◌++◌, sym, ◌∙◌, ap, subst, arith}
 use Rattle.std.proofs.lemmas.List.{append_assoc}
 use Rattle.rb_arena.specs.RbTree.{EndsWith, PlaceAfter, SumsPut, HasPut}

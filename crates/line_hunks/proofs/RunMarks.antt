@@ -1,4 +1,4 @@
--- The marks of runs, and what stands beside what.
+-- The marks of runs, and of neighbouring runs.
 use Rattle.std.proofs.Common.{◌≡◌, ℕ, ◌+◌, ◌-◌, ◌^◌, ◌<◌, ◌≤◌, Bool, true, false, not, List, [], ◌∷◌, ◌++◌, length, take, drop, refl, sym, ◌∙◌, ap, subst, arith}
 use Rattle.std.specs.Prelude.{replicate}
 use Rattle.std.proofs.lemmas.List.{append_assoc, length-append, length-replicate, replicate-append-replicate, take_at, drop_at, drop-drop}
@@ -11,7 +11,7 @@ use Rattle.line_hunks.specs.declared.runs.Runs.{Runs}
 use Rattle.line_hunks.specs.Run.{is_new, later_mark, marks_from, run_marks, lines_in, numbers_end, IsInRange}
 use Rattle.line_hunks.specs.Runs.{marks_up, marks_down, marks_around, all_marks, line_count, marks_behind, StandsBy}
 
--- So many lines from one with this mark.
+-- The marks of `lines` lines from one with this mark on.
 
 pub length-marks_from : (mark : Mark) (lines : ℕ) → length (marks_from mark lines) ≡ lines
 length-marks_from New lines = length-replicate lines New
@@ -83,9 +83,9 @@ StandsBy-turned mark run runs gap others is stands some range beside = (
   subst (λ (m : Mark). StandsBy m others) (sym is) beside,
 )
 
--- Lines that are taken off.
+-- Lines that are removed.
 
--- what is left to cut, with so many more lines to take off
+-- the state of a cut, with `more` lines still to remove
 pub record IsCut (run : Run) (runs : List Run) (lines : ℕ) (rest : Run) (left : List Run) (more : ℕ) : Type 0 where
   pub marks : drop more (marks_behind rest left) ≡ drop lines (marks_behind run runs)
   pub count : lines_in (rest ∷ left) + lines ≡ lines_in (run ∷ runs) + more
@@ -155,7 +155,7 @@ with_joined front back a b new =
     ∙ ap (λ ms. replicate a New ++ ms) (sym (replicate-append-replicate new b New)) in
     ap (λ ms. marks_up front ++ (ms ++ marks_down back)) parts ∙ simp append_assoc
 
--- the line behind so many is the first that is edited
+-- the line with `before` lines before it is the first edited line
 edited_behind : (before old new : ℕ) (marks : List Mark) → take before marks ++ (replicate new New ++ drop (before + old) marks) ≡ edited_marks (before + 1) old new marks
 edited_behind before old new marks =
     let same : before + 1 - 1 ≡ before = omega arith in

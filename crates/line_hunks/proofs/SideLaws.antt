@@ -1,4 +1,4 @@
--- The runs on both sides of a gap, as they lie in a tree.
+-- The runs on both sides of a gap, as a tree stores them.
 use Rattle.std.proofs.Common.{◌≡◌, ℕ, ◌+◌, ◌-◌, ◌<◌, ◌^◌, Option, Some, None, List, [], ◌∷◌, ◌++◌, refl, sym, ◌∙◌, ap, subst, arith}
 use Rattle.std.specs.Prelude.{if◌then◌else◌}
 use Rattle.std.proofs.lemmas.Bool.{lt-ltb, le-ltb}
@@ -33,7 +33,7 @@ pub HaveLines-append : (us vs : List (ℕ × Run)) → HaveLines us → HaveLine
 HaveLines-append [] vs left right = right
 HaveLines-append (u ∷ us) vs left right = (left.0, HaveLines-append us vs left.1 right)
 
--- Where the gap parts the items.
+-- The split of the items at the gap.
 
 before-is : (us vs : List (ℕ × Run)) → HaveLines vs → items_before (lines_of us) (us ++ vs) ≡ us
 before-is [] [] some = refl
@@ -84,7 +84,7 @@ pub last_or-append : (o : Option ℕ) (us : List (ℕ × Run)) (id : ℕ) (run :
 last_or-append o [] id run = refl
 last_or-append o (u ∷ us) id run = last_or-append (Some u.0) us id run
 
--- the list is empty, or ends with the item of the name that is its last one
+-- a non-empty list ends with the item of its last name
 ends-from : (o : Option ℕ) (u : ℕ × Run) (us : List (ℕ × Run))
     → (ws : List (ℕ × Run)) × ((id : ℕ) × ((run : Run) × (last_or o (u ∷ us) ≡ Some id) × (u ∷ us ≡ ws ++ (id, run) ∷ [])))
 ends-from o u [] = ([], (u.0, (u.1, refl, refl)))

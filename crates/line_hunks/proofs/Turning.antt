@@ -1,4 +1,4 @@
--- Runs in order, around a gap that stands at one or another of them.
+-- Runs in order, with the gap at any of them.
 use Rattle.std.proofs.Common.{◌≡◌, ◌+◌, List, [], ◌∷◌, ◌++◌, refl, sym, ◌∙◌, ap, subst, arith}
 use Rattle.std.specs.Prelude.{⊤}
 use Rattle.std.proofs.lemmas.List.{append_assoc}
@@ -55,7 +55,7 @@ step-on run front gap back stands = record {
   small = omega (arith, stands.small);
 }
 
--- with the gap at the first of these
+-- the invariant with the gap at the first run
 abbrev AreInOrder : List Run → Type 0
 AreInOrder [] = ⊤
 AreInOrder (run ∷ runs) = Stands [] run runs

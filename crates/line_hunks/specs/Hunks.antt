@@ -3,7 +3,7 @@ use Rattle.std.specs.Prelude.{ℕ, List}
 use Rattle.mark_rules.specs.declared.Mark.{Mark}
 
 pub record Shown : Type 0 where
-  -- one for each line, the first line's first
+  -- one for each line, in order
   pub marks : List Mark
-  -- for how many edits there is room
+  -- the number of edits for which there is room
   pub spare : ℕ

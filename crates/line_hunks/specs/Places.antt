@@ -1,4 +1,4 @@
--- Where a line stands among the marks.
+-- The place of a line among the marks.
 use Rattle.std.specs.Prelude.{ℕ, ◌≡◌, ◌+◌, ◌<◌, true, false, List, ◌++◌, length}
 use Rattle.mark_rules.specs.declared.Mark.{Mark}
 use Rattle.mark_rules.specs.declared.Mark.TheVariants.{New}
@@ -6,11 +6,11 @@ use Rattle.mark_rules.specs.Marks.{mark_at, kept_run, new_run}
 use Rattle.line_hunks.specs.declared.run.Place.{Place}
 use Rattle.line_hunks.specs.Run.{is_new, run_marks, IsInRange}
 
--- the last of these lines is new, if there are any
+-- the last of these lines, if any, is new
 abbrev pub EndsNew : List Mark → Type 0
 EndsNew marks = mark_at (length marks) marks ≡ New
 
--- line n stands here; no line beside the run belongs to it
+-- line n is at this place, and the run cannot be extended: the lines beside it do not continue it
 pub record IsPlace (marks : List Mark) (n : ℕ) (place : Place) : Type 0 where
   pub lower : List Mark
   pub upper : List Mark

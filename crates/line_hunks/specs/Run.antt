@@ -9,12 +9,12 @@ abbrev pub is_new : Mark → Bool
 is_new New = true
 is_new (Kept number) = false
 
--- of the line so many lines behind one with this mark, in one run
+-- the mark of the line that follows `lines` lines after a line with this mark, in one run
 abbrev pub later_mark : Mark → ℕ → Mark
 later_mark New lines = New
 later_mark (Kept number) lines = Kept (number + lines)
 
--- so many lines from one with this mark on
+-- the marks of `lines` lines of one run, from a line with this mark on
 abbrev pub marks_from : Mark → ℕ → List Mark
 marks_from New lines = replicate lines New
 marks_from (Kept number) lines = kept_marks number lines
@@ -25,7 +25,7 @@ run_marks run = marks_from run.first run.lines
 abbrev pub new_lines : ℕ → Run
 new_lines lines = record { first = New; lines = lines }
 
--- so many of its lines, and the others
+-- the first `lines` lines of the run, and the rest
 abbrev pub head_of : Run → ℕ → Run
 head_of run lines = record { first = run.first; lines = lines }
 
@@ -36,7 +36,7 @@ abbrev pub lines_in : List Run → ℕ
 lines_in [] = 0
 lines_in (run ∷ runs) = run.lines + lines_in runs
 
--- how many lines are kept, of so many from one with this mark on
+-- the number of kept lines among `lines` lines of one run, from a line with this mark on
 abbrev pub kept_of : Mark → ℕ → ℕ
 kept_of New lines = 0
 kept_of (Kept number) lines = lines
@@ -44,12 +44,12 @@ kept_of (Kept number) lines = lines
 abbrev pub kept_lines : Run → ℕ
 kept_lines run = kept_of run.first run.lines
 
--- how many of them are new
+-- the number of new lines among them
 abbrev pub new_of : Mark → ℕ → ℕ
 new_of New lines = lines
 new_of (Kept number) lines = 0
 
--- the number behind the last one
+-- the number after the last one; for new lines, their count
 abbrev pub numbers_end : Mark → ℕ → ℕ
 numbers_end New lines = lines
 numbers_end (Kept number) lines = number + lines

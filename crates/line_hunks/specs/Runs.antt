@@ -1,21 +1,21 @@
--- The runs of a text, in order: those before the gap, the gap, those behind it.
+-- The runs of a text, in order: the runs before the gap, the gap, the runs after it.
 use Rattle.std.specs.Prelude.{ℕ, ◌≡◌, ◌+◌, ◌^◌, ◌<◌, ⊤, not, List, [], ◌∷◌, ◌++◌}
 use Rattle.mark_rules.specs.declared.Mark.{Mark}
 use Rattle.line_hunks.specs.declared.run.Run.{Run}
 use Rattle.line_hunks.specs.declared.runs.Runs.{Runs}
 use Rattle.line_hunks.specs.Run.{is_new, run_marks, lines_in, IsInRange}
 
--- of runs of which the last comes first
+-- the marks of runs listed from the last to the first
 abbrev pub marks_up : List Run → List Mark
 marks_up [] = []
 marks_up (run ∷ runs) = marks_up runs ++ run_marks run
 
--- of runs of which the first comes first
+-- the marks of runs listed from the first to the last
 abbrev pub marks_down : List Run → List Mark
 marks_down [] = []
 marks_down (run ∷ runs) = run_marks run ++ marks_down runs
 
--- of a run with others before it, and with others behind it
+-- the marks of a run with other runs before it, and with other runs after it
 abbrev pub marks_before : List Run → Run → List Mark
 marks_before runs run = marks_up runs ++ run_marks run
 
@@ -31,7 +31,7 @@ all_marks r = marks_around r.sides.front r.gap r.sides.back
 abbrev pub line_count : Runs → ℕ
 line_count r = lines_in r.sides.front + r.gap.lines + lines_in r.sides.back
 
--- beside new lines stand kept ones, and the other way round, from a line with this mark on; each run has a line
+-- from a line with this mark on, runs of new lines and runs of kept lines alternate; each run has a line
 abbrev pub StandsBy : Mark → List Run → Type 0
 StandsBy mark [] = ⊤
 StandsBy mark (run ∷ runs) =

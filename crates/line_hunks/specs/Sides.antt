@@ -1,4 +1,4 @@
--- What contracts see of the runs on both sides of a gap, and how these lie in a tree.
+-- What contracts see of the runs on both sides of a gap, and how these are stored in a tree.
 use Rattle.std.specs.Prelude.{ℕ, ◌≡◌, ◌+◌, ◌-◌, ◌<◌, ◌^◌, ⊤, Option, None, nat_lt, if◌then◌else◌, List, [], ◌∷◌, ◌++◌}
 use Rattle.rb_arena.specs.RbTree.{SplitsAt, last_or}
 use Rattle.line_hunks.specs.declared.run.Run.{Run}
@@ -6,24 +6,24 @@ use Rattle.line_hunks.specs.declared.run.Place.{Place}
 use Rattle.line_hunks.specs.Run.{lines_in}
 
 pub record Shown : Type 0 where
-  -- those before the gap, the last first
+  -- the runs before the gap, from the last to the first
   pub front : List Run
-  -- those behind it, the first first
+  -- the runs after the gap, from the first to the last
   pub back : List Run
-  -- for how many more there is room
+  -- the number of further runs for which there is room
   pub room : ℕ
 
--- runs of which the last comes first, put one after another before the others
+-- the runs in `front`, listed from the last to the first, put in order before the others
 abbrev pub turned : List Run → List Run → List Run
 turned [] runs = runs
 turned (run ∷ front) runs = turned front (run ∷ runs)
 
--- without their names
+-- the runs of the items, without their names
 abbrev pub runs_of : List (ℕ × Run) → List Run
 runs_of [] = []
 runs_of (item ∷ items) = item.1 ∷ runs_of items
 
--- the items of the first so many lines, and the others
+-- the items that lie within the first `lines` lines, and the others
 abbrev pub items_before : ℕ → List (ℕ × Run) → List (ℕ × Run)
 items_before lines [] = []
 items_before lines (item ∷ items) =
@@ -34,7 +34,7 @@ items_behind lines [] = []
 items_behind lines (item ∷ items) =
     if nat_lt lines item.1.lines then item ∷ items else items_behind (lines - item.1.lines) items
 
--- of a tree with these items and so much room, around a gap behind so many lines
+-- what is shown of a tree with these items and this room, and with the gap after `lines` lines
 abbrev pub shown : List (ℕ × Run) → ℕ → ℕ → Shown
 shown items lines room = record {
   front = turned (runs_of (items_before lines items)) [];
@@ -47,7 +47,7 @@ abbrev pub HaveLines : List (ℕ × Run) → Type 0
 HaveLines [] = ⊤
 HaveLines (item ∷ items) = (0 < item.1.lines) × HaveLines items
 
--- the gap stands between these items: behind so many lines, and behind the item of that name
+-- the gap is between the items `us` and `vs`: after `lines` lines, and after the item named `before`
 pub record AreParts (items : List (ℕ × Run)) (before : Option ℕ) (lines : ℕ) (us vs : List (ℕ × Run)) : Type 0 where
   pub whole : items ≡ us ++ vs
   pub count : lines ≡ lines_in (runs_of us)
@@ -58,7 +58,7 @@ pub record AreParts (items : List (ℕ × Run)) (before : Option ℕ) (lines : �
 abbrev pub IsParted : List (ℕ × Run) → Option ℕ → ℕ → Type 0
 IsParted items before lines = AreParts items before lines (items_before lines items) (items_behind lines items)
 
--- the line behind so many is in this item
+-- the line with `lines` lines before it is in the item named `id`
 pub record FindsLine (items : List (ℕ × Run)) (lines id : ℕ) (place : Place) : Type 0 where
   pub lower : List (ℕ × Run)
   pub upper : List (ℕ × Run)
@@ -66,7 +66,7 @@ pub record FindsLine (items : List (ℕ × Run)) (lines id : ℕ) (place : Place
   pub line : lines ≡ lines_in (runs_of lower) + place.before
   pub within : place.before < place.run.lines
 
--- the line behind so many is in this one of the runs, with the gap among them
+-- the line with `lines` lines before it is in this run, among the runs on both sides and the run `gap` between them
 pub record Holds (s : Shown) (gap : Run) (lines : ℕ) (place : Place) : Type 0 where
   pub lower : List Run
   pub upper : List Run

@@ -1,11 +1,11 @@
--- What a tree keeps of runs, and where a search goes.
+-- What a tree stores of runs, and the turns of a search.
 use Rattle.std.specs.Prelude.{ℕ, ◌+◌, ◌-◌, ◌<◌, ◌^◌, cond, nat_lt}
 use Rattle.rb_rules.specs.declared.weave.Turn.{Turn}
 use Rattle.rb_rules.specs.declared.weave.Turn.TheVariants.{Stop, Left, Right}
 use Rattle.rb_rules.specs.Weaving.{Weaving}
 use Rattle.line_hunks.specs.declared.run.Run.{Run}
 
--- lines add up, and no run is ever moved
+-- the sum is the number of lines, and shifts do nothing
 abbrev pub adding : Weaving Run ℕ (Unit {0})
 adding = record {
   none = 0;
@@ -24,6 +24,6 @@ has_line run = 0 < run.lines
 abbrev pub is_few : ℕ → Type 0
 is_few lines = lines < 2 ^ 62
 
--- where a search for the line with so many before it goes from a run with `before` of them before it
+-- the turn at a run, with `before` lines before it, of a search for the line with `line` lines before it
 abbrev pub run_turn : ℕ → ℕ → Run → Turn
 run_turn line before run = cond (nat_lt line before) Left (cond (nat_lt (line - before) run.lines) Stop Right)

@@ -9,8 +9,8 @@ use crate::run::Run;
 use crate::sides::Sides;
 use mark_rules::Mark;
 
-/// Takes so many lines off, of the run and then of those behind the gap. Returns what is left of the last run that was
-/// touched, maybe no line.
+/// Removes `lines` lines: first those of the run, then those after the gap. Returns the rest of the last run touched,
+/// which may be empty.
 pub(crate) fn take_lines(sides: &mut Sides, run: Run, lines: u64) -> Run
     requires within { lines ≤ run.lines + lines_in sides.old.back }
     requires range { IsInRange run }
@@ -32,8 +32,8 @@ pub(crate) fn take_lines(sides: &mut Sides, run: Run, lines: u64) -> Run
     rest.split(more).1
 }
 
-/// Puts what is left of a run, maybe no line, before new lines. New lines that would stand beside those are taken
-/// away: how many.
+/// Inserts the rest of a run, which may be empty, before the new lines of an edit. New lines that would end up right
+/// before those are not kept as a run; returns their number.
 pub(crate) fn set_front(sides: &mut Sides, run: Run) -> u64
     requires room { 0 < sides.old.room }
     requires fits { lines_in sides.old.front + run.lines + lines_in sides.old.back < 2 ^ 62 }
@@ -60,7 +60,7 @@ pub(crate) fn set_front(sides: &mut Sides, run: Run) -> u64
     }
 }
 
-/// The same behind new lines.
+/// Like `set_front`, after the new lines of an edit.
 pub(crate) fn set_back(sides: &mut Sides, run: Run) -> u64
     requires room { 0 < sides.old.room }
     requires fits { lines_in sides.old.front + run.lines + lines_in sides.old.back < 2 ^ 62 }

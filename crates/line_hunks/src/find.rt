@@ -1,4 +1,4 @@
-//! A search in the tree, which nobody counts.
+//! A search in the tree, without a count of its steps.
 
 ghost use Rattle.std.specs.Prelude.{◌≡◌, ◌<◌};
 ghost use Rattle.line_hunks.specs.Run.{lines_in};
@@ -10,7 +10,7 @@ use raw_arena::NodeId;
 use rb_arena::RbTree;
 use steps::Steps;
 
-/// Where the line behind so many stands, and the name of its run.
+/// Finds the line with `lines` lines before it. Returns the node of its run, and its place in the run.
 pub(crate) fn find(tree: &RbTree<RunWeave>, lines: u64) -> (NodeId, Place)
     requires { lines < lines_in (runs_of tree.now.items) }
     ensures { FindsLine tree.now.items lines result.0 result.1 }

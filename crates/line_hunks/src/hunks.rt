@@ -10,11 +10,11 @@ use mark_rules::Mark;
 use std::alloc::{AllocError, Global};
 use std::marker::Model;
 
-/// One mark for each line of a text, from its first line on. Lines are counted from 1; there is at least one, and fewer
-/// than 2^62.
+/// One mark for each line of a text, in order. Lines are numbered from 1; there is at least one, and fewer than 2^62.
 ///
-/// They are kept as runs in a tree, around a gap where the text was edited last. A look-up and an edit cost the logarithm
-/// of the number of runs, an edit once more for each run that it takes away. Typing at one place touches no run beside it.
+/// The marks are stored as runs in a balanced tree, with a gap at the last edit. A look-up takes time logarithmic in
+/// the number of runs. An edit does too, and once more for each run that it removes. Typing at one place touches no run
+/// beside it.
 #[derive(Drop)]
 pub struct Hunks {
     runs: Runs,
@@ -37,14 +37,14 @@ impl Model for Hunks {
 }
 
 impl Hunks {
-    /// One line, which is new. Takes no memory.
+    /// Creates the marks of one line, which is new. Allocates no memory.
     pub fn new(alloc: Global) -> Hunks
         ensures { result.marks ≡ New ∷ [] }
     {
         Hunks::all_new(alloc, 1)
     }
 
-    /// So many new lines. Takes no memory.
+    /// Creates the marks of `lines` new lines. Allocates no memory.
     pub fn all_new(alloc: Global, lines: u64) -> Hunks
         requires some { 1 ≤ lines }
         requires fits { lines < 2 ^ 62 }
@@ -55,7 +55,7 @@ impl Hunks {
         }
     }
 
-    /// So many lines that are kept one after another, from this number on. Takes no memory.
+    /// Creates the marks of `lines` lines kept with consecutive numbers from `first` on. Allocates no memory.
     pub fn all_kept(alloc: Global, first: u64, lines: u64) -> Hunks
         requires first { 1 ≤ first }
         requires some { 1 ≤ lines }
@@ -68,8 +68,8 @@ impl Hunks {
         }
     }
 
-    /// Makes room for so many edits. Only this and a push take memory. An error leaves the marks as they were, and room
-    /// that was there stays.
+    /// Makes room for `edits` edits. Only this and the pushes allocate memory. Also after an error the marks are
+    /// unchanged and room that was there stays.
     pub fn reserve(&mut self, edits: u64) -> Result<(), AllocError>
         ensures room { OnOk result (edits ≤ self.new.spare) }
         ensures marks { self.new.marks ≡ self.old.marks }
@@ -78,7 +78,7 @@ impl Hunks {
         self.runs.reserve(edits)
     }
 
-    /// The lines from line `first` on, `old` of them, became `new` other ones. Neither is 0. Takes no memory.
+    /// Replaces the `old` lines from line `first` on by `new` new lines. Neither number is 0. Allocates no memory.
     pub fn edit(&mut self, first: u64, old: u64, new: u64)
         requires room { 0 < self.old.spare }
         requires first { 1 ≤ first }
@@ -92,7 +92,7 @@ impl Hunks {
         self.runs.edit(first, old, new);
     }
 
-    /// The text, now of so many lines, was parsed: each line is kept.
+    /// Marks all lines as kept, after a parse of the text, which has `lines` lines now.
     pub fn clean(&mut self, lines: u64)
         requires some { 1 ≤ lines }
         requires fits { lines < 2 ^ 62 }
@@ -102,7 +102,7 @@ impl Hunks {
         self.runs.clean(lines);
     }
 
-    /// More new lines behind the last one. An error leaves the marks as they were.
+    /// Appends `lines` new lines. After an error the marks are unchanged.
     pub fn push_new(&mut self, lines: u64) -> Result<(), AllocError>
         requires some { 1 ≤ lines }
         requires fits { length self.old.marks + lines < 2 ^ 62 }
@@ -115,8 +115,8 @@ impl Hunks {
         Ok(())
     }
 
-    /// Lines that are kept one after another, from this number on, behind the last one, which is new. An error leaves the
-    /// marks as they were.
+    /// Appends `lines` lines kept with consecutive numbers from `first` on. The last line before them is new. After an
+    /// error the marks are unchanged.
     pub fn push_kept(&mut self, first: u64, lines: u64) -> Result<(), AllocError>
         requires some { 1 ≤ lines }
         requires fits { length self.old.marks + lines < 2 ^ 62 }
@@ -132,7 +132,7 @@ impl Hunks {
         Ok(())
     }
 
-    /// How many lines the text has.
+    /// Returns the number of lines.
     pub fn lines(&self) -> u64
         ensures lines { result ≡ length self.now.marks }
         ensures some { 1 ≤ result }
@@ -142,7 +142,8 @@ impl Hunks {
         self.runs.lines()
     }
 
-    /// The mark of line `n`, and how many lines from it on are kept one after another: 0 where it is new. One look-up.
+    /// Returns the mark of line `n`, and the number of lines from it on that are kept with consecutive numbers: 0 if
+    /// line `n` is new. Takes one look-up.
     pub fn at(&self, n: u64) -> (Mark, u64)
         requires some { 1 ≤ n }
         requires within { n ≤ length self.now.marks }
@@ -155,7 +156,7 @@ impl Hunks {
         (rest.first, rest.kept())
     }
 
-    /// The mark of line `n`.
+    /// Returns the mark of line `n`.
     pub fn mark(&self, n: u64) -> Mark
         requires some { 1 ≤ n }
         requires within { n ≤ length self.now.marks }
@@ -164,7 +165,7 @@ impl Hunks {
         self.at(n).0
     }
 
-    /// How many lines from line `n` on are kept one after another; 0 where line `n` is new.
+    /// Returns the number of lines from line `n` on that are kept with consecutive numbers; 0 if line `n` is new.
     pub fn kept_from(&self, n: u64) -> u64
         requires some { 1 ≤ n }
         requires within { n ≤ length self.now.marks }
@@ -173,7 +174,8 @@ impl Hunks {
         self.at(n).1
     }
 
-    /// How many lines from line `n` on are new, one after another; 0 where line `n` is kept. One look-up.
+    /// Returns the number of lines from line `n` to the next kept line or the end; 0 if line `n` is kept. Takes one
+    /// look-up.
     pub fn new_from(&self, n: u64) -> u64
         requires some { 1 ≤ n }
         requires within { n ≤ length self.now.marks }
@@ -183,7 +185,7 @@ impl Hunks {
         place.run.split(place.before).1.fresh()
     }
 
-    /// The first and the last new line, None where no line is new. Takes no memory.
+    /// Returns the first and the last new line; None if no line is new. Allocates no memory.
     pub fn stale(&self) -> Option<(u64, u64)>
         ensures none { IfNone result (has_new self.now.marks ≡ false) }
         ensures some { IfSome result (λ ends. SpansNew self.now.marks ends.0 ends.1) }
@@ -191,7 +193,7 @@ impl Hunks {
         self.runs.stale()
     }
 
-    /// Whether no line is new.
+    /// Returns whether no line is new.
     pub fn is_clean(&self) -> bool
         ensures { result ≡ not (has_new self.now.marks) }
     {

@@ -1,4 +1,4 @@
-//! The marks of a text's lines, kept as runs of lines whose marks go on from one to the next.
+//! The marks of a text's lines, stored as runs of lines that are all new or kept with consecutive numbers.
 #![tactic(auto)]
 
 mod edges;

@@ -1,4 +1,4 @@
-//! Where a line stands.
+//! Finds lines in the runs.
 
 ghost use Rattle.std.specs.Prelude.{◌≡◌, ◌≤◌, false, not, IfSome, IfNone};
 ghost use Rattle.mark_rules.specs.Marks.{has_new, SpansNew};
@@ -10,7 +10,7 @@ use crate::runs::Runs;
 use mark_rules::Mark;
 
 impl Runs {
-    /// The place of line `n`, from 1.
+    /// Finds the place of line `n`, counted from 1.
     pub(crate) fn place(&self, n: u64) -> Place
         requires whole { IsWhole self.now }
         requires some { 1 ≤ n }
@@ -20,19 +20,20 @@ impl Runs {
         self.sides.place(self.gap, n - 1)
     }
 
-    /// Whether no line is new.
+    /// Returns whether no line is new.
     pub(crate) fn is_clean(&self) -> bool
         requires whole { IsWhole self.now }
         ensures { result ≡ not (has_new (all_marks self.now)) }
     {
         match self.gap.first {
             Mark::New => false,
-            // Beside kept lines stand new ones.
+            // The runs beside a run of kept lines are new.
             Mark::Kept(_) => self.sides.lines() == 0,
         }
     }
 
-    /// The first and the last new line. Outside of them stand only kept lines of the first and the last run.
+    /// Returns the first and the last new line; None if no line is new. The lines outside of them are kept lines of the
+    /// first and the last run.
     pub(crate) fn stale(&self) -> Option<(u64, u64)>
         requires whole { IsWhole self.now }
         ensures none { IfNone result (has_new (all_marks self.now) ≡ false) }

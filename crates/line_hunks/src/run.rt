@@ -1,4 +1,4 @@
-//! Lines whose marks go on from one to the next.
+//! Lines in a row that are all new, or kept with consecutive numbers.
 
 ghost use Rattle.std.specs.Prelude.{◌≡◌, ◌-◌, ◌<◌, ◌≤◌};
 ghost use Rattle.mark_rules.specs.declared.Mark.TheVariants.{New};
@@ -6,15 +6,15 @@ ghost use Rattle.line_hunks.specs.Run.{later_mark, head_of, tail_of, kept_lines,
 
 use mark_rules::Mark;
 
-/// Lines one after another: all new, or kept one after another. They are none only while an edit is under way.
+/// A run of lines: all new, or kept with consecutive numbers. It is empty only while an edit is under way.
 #[derive(Clone, Copy)]
 pub(crate) struct Run {
-    /// The mark of the first line, or of the line that would be.
+    /// The mark of the first line; in an empty run, the mark that its first line would have.
     pub first: Mark,
     pub lines: u64,
 }
 
-/// A line of a run, behind so many others of it.
+/// A line of a run, with `before` lines of the run before it.
 #[derive(Clone, Copy)]
 pub(crate) struct Place {
     pub run: Run,
@@ -22,7 +22,7 @@ pub(crate) struct Place {
 }
 
 impl Run {
-    /// The mark of the line behind so many of them.
+    /// Returns the mark of the line with `before` lines of the run before it.
     pub(crate) fn mark(self, before: u64) -> Mark
         requires within { before ≤ self.lines }
         requires range { IsInRange self }
@@ -34,7 +34,7 @@ impl Run {
         }
     }
 
-    /// How many of the lines are kept: all or none.
+    /// Returns the number of kept lines: all or 0.
     pub(crate) fn kept(self) -> u64
         ensures { result ≡ kept_lines self }
     {
@@ -44,7 +44,7 @@ impl Run {
         }
     }
 
-    /// How many of the lines are new: all or none.
+    /// Returns the number of new lines: all or 0.
     pub(crate) fn fresh(self) -> u64
         ensures { result ≡ new_of self.first self.lines }
     {
@@ -54,7 +54,7 @@ impl Run {
         }
     }
 
-    /// So many of the lines, and the others.
+    /// Splits the run into its first `before` lines and the rest.
     pub(crate) fn split(self, before: u64) -> (Run, Run)
         requires within { before ≤ self.lines }
         requires range { IsInRange self }

@@ -1,4 +1,4 @@
-//! The runs of a text, with a gap where it was edited last.
+//! The runs of a text, with a gap at the last edit.
 
 ghost use Rattle.std.specs.Prelude.{◌≡◌, ◌+◌, ◌-◌, ◌*◌, ◌^◌, ◌<◌, ◌≤◌, ◌++◌, [], not, replicate, OnOk};
 ghost use Rattle.mark_rules.specs.declared.Mark.TheVariants.{New};
@@ -20,7 +20,7 @@ pub(crate) struct Runs {
 }
 
 impl Runs {
-    /// So many lines that are all new.
+    /// Creates `lines` lines, all new.
     pub(crate) fn all_new(alloc: Global, lines: u64) -> Runs
         requires some { 1 ≤ lines }
         requires fits { lines < 2 ^ 62 }
@@ -36,7 +36,7 @@ impl Runs {
         }
     }
 
-    /// So many lines that are kept one after another, from this number on.
+    /// Creates `lines` lines kept with consecutive numbers from `first` on.
     pub(crate) fn all_kept(alloc: Global, first: u64, lines: u64) -> Runs
         requires some { 1 ≤ lines }
         requires fits { lines < 2 ^ 62 }
@@ -53,7 +53,7 @@ impl Runs {
         }
     }
 
-    /// So many lines that are all kept.
+    /// Replaces all runs by `lines` lines kept with consecutive numbers from 1 on.
     pub(crate) fn clean(&mut self, lines: u64)
         requires some { 1 ≤ lines }
         requires fits { lines < 2 ^ 62 }
@@ -68,7 +68,7 @@ impl Runs {
         };
     }
 
-    /// Makes room for so many edits. An error leaves the runs as they were, and room that was there stays.
+    /// Makes room for `edits` edits. Also after an error the runs are unchanged and room that was there stays.
     pub(crate) fn reserve(&mut self, edits: u64) -> Result<(), AllocError>
         ensures spare { OnOk result (2 * edits ≤ self.new.sides.room) }
         ensures front { self.new.sides.front ≡ self.old.sides.front }
@@ -80,7 +80,7 @@ impl Runs {
         self.sides.reserve(added)
     }
 
-    /// How many lines there are.
+    /// Returns the number of lines.
     pub(crate) fn lines(&self) -> u64
         requires { line_count self.now < 2 ^ 62 }
         ensures { result ≡ line_count self.now }
@@ -88,7 +88,7 @@ impl Runs {
         self.sides.lines() + self.gap.lines
     }
 
-    /// The run of the line behind so many becomes the gap.
+    /// Moves the gap to the run of the line with `before` lines before it.
     fn seek(&mut self, before: u64)
         requires whole { IsWhole self.old }
         requires room { 0 < self.old.sides.room }
@@ -107,7 +107,7 @@ impl Runs {
         self.gap = self.sides.seek(self.gap, before);
     }
 
-    /// Behind so many lines of the gap, `old` lines become `new` new ones.
+    /// Replaces the `old` lines after the first `before` lines of the gap by `new` new lines.
     fn replace(&mut self, before: u64, old: u64, new: u64)
         requires whole { IsWhole self.old }
         requires room { 2 ≤ self.old.sides.room }
@@ -129,7 +129,7 @@ impl Runs {
         };
     }
 
-    /// The lines from line `first` on, `old` of them, become `new` new ones.
+    /// Replaces the `old` lines from line `first` on by `new` new lines.
     pub(crate) fn edit(&mut self, first: u64, old: u64, new: u64)
         requires whole { IsWhole self.old }
         requires room { 2 ≤ self.old.sides.room }
@@ -147,7 +147,7 @@ impl Runs {
         let skipped = before - self.sides.front_lines();
         self.replace(skipped, old, new);
     }
-    /// The run of the last line becomes the gap.
+    /// Moves the gap to the run of the last line.
     fn seek_end(&mut self)
         requires whole { IsWhole self.old }
         requires room { 0 < self.old.sides.room }
@@ -161,7 +161,7 @@ impl Runs {
         self.seek(last);
     }
 
-    /// A run of the other kind goes behind the last one, which is the gap.
+    /// Appends a run after the last one, which is the gap and of the other kind.
     fn put_last(&mut self, run: Run)
         requires whole { IsWhole self.old }
         requires room { 0 < self.old.sides.room }
@@ -178,7 +178,7 @@ impl Runs {
         self.gap = run;
     }
 
-    /// More new lines behind the last one.
+    /// Appends `lines` new lines.
     pub(crate) fn push_new(&mut self, lines: u64)
         requires whole { IsWhole self.old }
         requires room { 0 < self.old.sides.room }
@@ -198,7 +198,7 @@ impl Runs {
         }
     }
 
-    /// Lines that are kept one after another, from this number on, behind the last one, which is new.
+    /// Appends `lines` lines kept with consecutive numbers from `first` on. The last line before them is new.
     pub(crate) fn push_kept(&mut self, first: u64, lines: u64)
         requires whole { IsWhole self.old }
         requires room { 0 < self.old.sides.room }

@@ -14,13 +14,13 @@ use rb_arena::RbTree;
 use std::alloc::{AllocError, Global};
 use std::marker::Model;
 
-/// The runs before a gap and those behind it, each with a line, in one tree. Only `reserve` takes memory.
+/// The runs before and after a gap, each with at least one line, in one tree. Only `reserve` allocates memory.
 #[derive(Drop)]
 pub(crate) struct Sides {
     tree: RbTree<RunWeave>,
-    /// The run right before the gap; None where none is.
+    /// The run right before the gap; None if there is none.
     before: Option<NodeId>,
-    /// How many lines stand before the gap.
+    /// The number of lines before the gap.
     lines: u64,
 }
 
@@ -35,7 +35,7 @@ impl Model for Sides {
 }
 
 impl Sides {
-    /// No run on either side.
+    /// Creates a gap without runs on either side.
     pub(crate) fn new(alloc: Global) -> Sides
         ensures front { result.front ≡ [] }
         ensures back { result.back ≡ [] }
@@ -47,7 +47,7 @@ impl Sides {
         }
     }
 
-    /// Makes room for so many more. An error leaves the runs as they were, and room that was there stays.
+    /// Makes room for `more` more runs. Also after an error the runs are unchanged and room that was there stays.
     pub(crate) fn reserve(&mut self, more: u64) -> Result<(), AllocError>
         ensures room { OnOk result (more ≤ self.new.room) }
         ensures front { self.new.front ≡ self.old.front }
@@ -57,14 +57,14 @@ impl Sides {
         self.tree.reserve(more)
     }
 
-    /// How many lines stand before the gap.
+    /// Returns the number of lines before the gap.
     pub(crate) fn front_lines(&self) -> u64
         ensures { result ≡ lines_in self.now.front }
     {
         self.lines
     }
 
-    /// How many lines stand on both sides.
+    /// Returns the number of lines on both sides.
     pub(crate) fn lines(&self) -> u64
         ensures lines { result ≡ lines_in self.now.front + lines_in self.now.back }
         ensures small { result < 2 ^ 62 }
@@ -72,7 +72,7 @@ impl Sides {
         self.tree.sum()
     }
 
-    /// Puts a run right before the gap.
+    /// Inserts a run right before the gap.
     pub(crate) fn push_front(&mut self, run: Run)
         requires room { 0 < self.old.room }
         requires some { 0 < run.lines }
@@ -85,7 +85,7 @@ impl Sides {
         self.lines += run.lines;
     }
 
-    /// Puts a run right behind the gap.
+    /// Inserts a run right after the gap.
     pub(crate) fn push_back(&mut self, run: Run)
         requires room { 0 < self.old.room }
         requires some { 0 < run.lines }
@@ -97,7 +97,7 @@ impl Sides {
         put_after(&mut self.tree, self.before, run);
     }
 
-    /// Takes the run right before the gap out.
+    /// Removes and returns the run right before the gap; None if there is none.
     pub(crate) fn pop_front(&mut self) -> Option<Run>
         ensures front { MatchOption result (self.old.front ≡ [])
             (λ run. self.old.front ≡ run ∷ self.new.front) }
@@ -114,7 +114,7 @@ impl Sides {
         Some(run)
     }
 
-    /// Takes the run right behind the gap out.
+    /// Removes and returns the run right after the gap; None if there is none.
     pub(crate) fn pop_back(&mut self) -> Option<Run>
         ensures back { MatchOption result (self.old.back ≡ [])
             (λ run. self.old.back ≡ run ∷ self.new.back) }
@@ -129,7 +129,7 @@ impl Sides {
         Some(run)
     }
 
-    /// Takes all runs out.
+    /// Removes all runs.
     pub(crate) fn clear(&mut self)
         ensures front { self.new.front ≡ [] }
         ensures back { self.new.back ≡ [] }
@@ -139,7 +139,8 @@ impl Sides {
         while self.pop_back().is_some() {}
     }
 
-    /// The gap's run goes among the others, and the one that has the line behind so many comes out: it stands in the gap now.
+    /// Moves the gap. Inserts the run `gap`, and removes and returns the run of the line with `lines` lines before it,
+    /// which is in the gap now.
     pub(crate) fn seek(&mut self, gap: Run, lines: u64) -> Run
         requires room { 0 < self.old.room }
         requires some { 0 < gap.lines }
@@ -159,7 +160,7 @@ impl Sides {
         place.run
     }
 
-    /// Where the line behind so many stands, among the runs with the gap's.
+    /// Finds the line with `lines` lines before it, among the runs on both sides and the run `gap` between them.
     pub(crate) fn place(&self, gap: Run, lines: u64) -> Place
         requires within { lines < lines_in self.now.front + gap.lines + lines_in self.now.back }
         ensures { Holds self.now gap lines result }
@@ -178,7 +179,7 @@ impl Sides {
     }
 }
 
-/// Puts a run right after the one of that name, or before all others.
+/// Inserts a run right after the node `id`, or before all others if `id` is None.
 fn put_after(tree: &mut RbTree<RunWeave>, id: Option<NodeId>, run: Run) -> NodeId
     requires room { 0 < tree.old.spare }
     requires named { PlaceAfter tree.old.items id }
@@ -193,7 +194,7 @@ fn put_after(tree: &mut RbTree<RunWeave>, id: Option<NodeId>, run: Run) -> NodeI
     }
 }
 
-/// The run right after the one of that name, or the first.
+/// Returns the run right after the node `id`, or the first run if `id` is None.
 fn next_after(tree: &RbTree<RunWeave>, id: Option<NodeId>) -> Option<NodeId>
     requires { PlaceAfter tree.now.items id }
     ensures { AtPlace tree.now.items id (λ us vs. result ≡ first_or None vs) }

@@ -1,4 +1,4 @@
-//! What a tree keeps of runs, and how it is searched.
+//! What a tree stores of runs, and how it is searched.
 
 ghost use Rattle.std.specs.Prelude.{◌≡◌, ⊤, Some, refl};
 ghost use Rattle.line_hunks.specs.Weave.{run_turn};
@@ -6,7 +6,8 @@ ghost use Rattle.line_hunks.specs.Weave.{run_turn};
 use crate::run::Run;
 use rb_rules::{Turn, Weave};
 
-/// Runs, whose lines add up. A search looks for the line with that many before it.
+/// The weave of runs: the sum is their number of lines. The key of a search is the number of lines before the sought
+/// line.
 pub(crate) struct RunWeave;
 
 impl Weave for RunWeave {

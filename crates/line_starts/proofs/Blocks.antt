@@ -1,4 +1,4 @@
--- What several units that are looked at together tell of the breaks.
+-- Breaks found in a block of units.
 use Rattle.std.proofs.Common.{◌≡◌, ℕ, zero, suc, ◌+◌, ◌-◌, ◌*◌, ◌/◌, ◌%◌, ◌^◌, ◌<◌, ◌≤◌, ◌==◌, Bool, cond, true, false, not, ◌&&◌, ◌||◌, if◌then◌else◌, List, [], ◌∷◌, ◌++◌, length, take, drop, map, refl, ap, ap₂, sym, subst, ◌∙◌, add-zero, arith, eqb, bit_and, bit_or}
 use native.Mathlib.Nat.{pow-suc, pow-zero, mul_comm, zero-div, zero-mod, mod-one, div-one, div-div-eq-div-mul}
 use lib.Count.{ones, ones-le, count_trailing_zeros}
@@ -11,7 +11,7 @@ use Rattle.std.proofs.lemmas.Simd.{length-chunk, length-zip2, ones-mask_l_cons, 
 use Rattle.text_rules.specs.Lines.{line_feed, carriage_return}
 use Rattle.text_rules.specs.Breaks.{ends_break, break_ends}
 
--- as many breaks, wherever the text stands
+-- the number of breaks does not depend on the place of the text
 pub same_count : (at to : ℕ) (s : List ℕ) → length (break_ends at s) ≡ length (break_ends to s)
 same_count at to [] = refl
 same_count at to (u ∷ s) = elim (ends_break u s) as (λ b. length (cond b ((at + 1) ∷ break_ends (at + 1) s) (break_ends (at + 1) s)) ≡ length (cond b ((to + 1) ∷ break_ends (to + 1) s) (break_ends (to + 1) s)))
@@ -69,7 +69,7 @@ abbrev pub marked : ℕ → List Bool → List ℕ
 marked place [] = []
 marked place (m ∷ ms) = if m then (place + 1) ∷ marked (place + 1) ms else marked (place + 1) ms
 
--- the breaks that end with the first k units, after which a unit comes
+-- the breaks that end with one of the first k units, where at least one more unit follows
 pub block_ends : (k place : ℕ) (s : List ℕ) → k < length s → marked place (zip2 ends_before (take k s) (take k (drop 1 s))) ++ break_ends (place + k) (drop k s) ≡ break_ends place s
 block_ends k place [] h = absurd (omega arith)
 block_ends zero place (u ∷ s) h = ap (λ n. break_ends n (u ∷ s)) (add-zero place)
@@ -82,7 +82,7 @@ block_ends (suc k) place (u ∷ v ∷ s) h =
     elim (ends_break u (v ∷ s)) as (λ b. cond b ((place + 1) ∷ marks) marks ++ rest ≡ cond b ((place + 1) ∷ ends) ends)
     [ true ↦ ap (λ l. (place + 1) ∷ l) later | false ↦ later ]
 
--- the marks of 32 units from a place on, after which a unit comes
+-- the marks of the 32 units from a place on, where at least one more unit follows
 abbrev pub block_marks : ℕ → List ℕ → List Bool
 block_marks at x = zip2 ends_before (chunk at 32 x) (chunk (at + 1) 32 x)
 
@@ -118,7 +118,7 @@ odd : (m : Bool) (n : ℕ) → (cond m 1 0 + 2 * n) % 2 ≡ cond m 1 0
 odd true n = omega arith
 odd false n = omega arith
 
--- a mask of the first marks is what is left of the mask of all
+-- the mask of the first k marks is the mask of all modulo 2 ^ k
 mask_front : (k : ℕ) (ms : List Bool) → mask_l ms % 2 ^ k ≡ mask_l (take k ms)
 mask_front zero ms = ap (λ n. mask_l ms % n) (pow-zero 2) ∙ mod-one (mask_l ms)
 mask_front (suc k) [] = zero-mod (2 ^ suc k)
@@ -184,7 +184,7 @@ first_mark place steps ms few some is =
     let found : suc unmarked ≡ steps = omega (arith, is, lowest) in
     (omega (arith, found, here), subst (λ n. marked place ms ≡ (place + n) ∷ marked (place + n) (drop n ms)) found (marked_first place unmarked ms refl here))
 
--- ... in a block, of which the units before a place were seen
+-- ... in a block whose units before `place` were read
 pub next_mark : (start place left steps : ℕ) (ms : List Bool) → length ms ≡ 32 → start ≤ place → left ≡ mask_l (drop (place - start) ms) → (left ≡ 0 → ⊥)
     → steps ≡ count_trailing_zeros 64 left + 1
     → (place + steps ≤ start + 32) × (left / 2 ^ (count_trailing_zeros 64 left + 1) ≡ mask_l (drop (place + steps - start) ms))

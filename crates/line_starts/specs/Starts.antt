@@ -12,14 +12,14 @@ starts_of x = map (line_start x) (range_with_len 1 (length (lines_of x)))
 abbrev pub break_count : List ℕ → ℕ
 break_count x = length (lines_of x) - 1
 
--- the place after each break, for a text that stands at a place in a longer one
+-- the place after each break, for a text that starts at `place` in a longer one
 abbrev pub break_ends_at : ℕ → List ℕ → List ℕ
 break_ends_at place x = map (λ start. place + start) (drop 1 (starts_of x))
 
--- how many breaks end behind a place
+-- the number of breaks in the text from `place` on
 abbrev pub breaks_from : List ℕ → ℕ → ℕ
 breaks_from x place = length (break_ends 0 (drop place x))
 
--- added up over four places that are so many units apart
+-- the sum of a count over four places that are `apart` units apart
 abbrev pub at_four : (ℕ → ℕ) → ℕ → ℕ → ℕ
 at_four count at apart = count at + count (apart + at) + count (apart * 2 + at) + count (apart * 3 + at)

@@ -1,4 +1,4 @@
-//! Breaks by lanes: several units are looked at together.
+//! Finds breaks with SIMD lanes, several units at a time.
 
 ghost use Rattle.std.specs.Prelude.{◌≡◌, ◌+◌, ◌*◌, ◌<◌, ◌≤◌, ◌∷◌, [], length};
 ghost use Rattle.std.specs.Simd.Lanes.{chunk, zip2, mask_l};
@@ -8,11 +8,11 @@ ghost use Rattle.text_rules.specs.Breaks.{ends_break};
 use std::simd::prelude::*;
 use unit_text::{CARRIAGE_RETURN, LINE_FEED};
 
-/// How many units are looked at together.
+/// The number of units in a block.
 pub(crate) const LANES: usize = 32;
 
-/// With which of `LANES` units a break ends, after which a unit comes: a bit for each, the lowest for the first. It ends with an LF, and
-/// with a CR that no LF follows.
+/// Returns a mask of the `LANES` units from `at` on: a bit is set if a break ends with that unit, and the lowest bit is for the first unit.
+/// A break ends with an LF, or with a CR that no LF follows. At least one unit must follow the block.
 #[inline(always)]
 pub(crate) fn ends_in_block(units: &[u16], at: usize) -> u64
     requires { at + 32 < length units.now }
@@ -27,7 +27,7 @@ pub(crate) fn ends_in_block(units: &[u16], at: usize) -> u64
     (feeds | (returns & no_feed_after)).to_bitmask()
 }
 
-/// How many breaks end with `LANES` units, after which a unit comes.
+/// Counts the breaks that end with one of the `LANES` units from `at` on. At least one unit must follow them.
 #[inline(always)]
 pub(crate) fn breaks_in_block(units: &[u16], at: usize) -> u32
     requires { at + 32 < length units.now }
@@ -36,7 +36,7 @@ pub(crate) fn breaks_in_block(units: &[u16], at: usize) -> u32
     ends_in_block(units, at).count_ones()
 }
 
-/// How many breaks end with the first `many` of `LANES` units.
+/// Counts the breaks that end with one of the first `many` of the `LANES` units from `at` on.
 #[inline(always)]
 pub(crate) fn breaks_in_front(units: &[u16], at: usize, many: usize) -> u32
     requires within { at + 32 < length units.now }
@@ -46,7 +46,8 @@ pub(crate) fn breaks_in_front(units: &[u16], at: usize, many: usize) -> u32
     (ends_in_block(units, at) % (1 << many)).count_ones()
 }
 
-/// How many breaks end with `LANES` units at each of four places, which are so many units apart.
+/// Counts the breaks that end in four blocks of `LANES` units. The first block starts at `at`, and each starts `apart` units after the one
+/// before.
 #[inline(always)]
 pub(crate) fn breaks_in_blocks(units: &[u16], at: usize, apart: usize) -> u64
     requires { apart * 3 + at + 32 < length units.now }

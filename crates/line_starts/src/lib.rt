@@ -14,7 +14,7 @@ use std::alloc::AllocError;
 use text_lengths::Length;
 use unit_text::{CARRIAGE_RETURN, LINE_FEED};
 
-/// Appends the start of each line: 0, and the place after each break. After an error `out` is as it was.
+/// Appends the start of each line: 0, then the offset after each break. On an error `out` is unchanged.
 pub fn find_starts(units: &[u16], out: &mut Vec<u64>) -> Result<(), AllocError>
     ensures ok { OnOk result (out.new.items ≡ out.old.items ++ starts_of units.now) }
     ensures err { OnErr result (out.new.items ≡ out.old.items) }
@@ -31,7 +31,7 @@ pub fn find_starts(units: &[u16], out: &mut Vec<u64>) -> Result<(), AllocError>
     appended
 }
 
-/// Appends the place after each break, counted from a place `start` before the units. After an error `out` is as it was.
+/// Appends `start` plus the offset after each break. On an error `out` is unchanged.
 pub fn find_break_ends(units: &[u16], start: u64, out: &mut Vec<u64>) -> Result<(), AllocError>
     requires { start + length units.now < 2 ^ 64 }
     ensures ok { OnOk result (out.new.items ≡ out.old.items ++ break_ends_at start units.now) }
@@ -47,7 +47,7 @@ pub fn find_break_ends(units: &[u16], start: u64, out: &mut Vec<u64>) -> Result<
     appended
 }
 
-// After an error some of the places stand behind what was there.
+// Does the same, but on an error `out` may keep some of the appended places.
 fn push_break_ends(units: &[u16], start: u64, out: &mut Vec<u64>) -> Result<(), AllocError>
     requires { start + length units.now < 2 ^ 64 }
     ensures ok { OnOk result (out.new.items ≡ out.old.items ++ break_ends_at start units.now) }
@@ -63,7 +63,7 @@ fn push_break_ends(units: &[u16], start: u64, out: &mut Vec<u64>) -> Result<(), 
     push_rest(units, at, start, out)
 }
 
-// Appends the place after each break that ends with one of `LANES` units, the first of which has the place `start`.
+// Appends the place after each break that ends with one of the `LANES` units from `at` on; the place of the first of them is `start`.
 fn push_block(units: &[u16], at: usize, start: u64, out: &mut Vec<u64>) -> Result<(), AllocError>
     requires within { at + 32 < length units.now }
     requires short { start + 32 < 2 ^ 64 }
@@ -86,7 +86,7 @@ fn push_block(units: &[u16], at: usize, start: u64, out: &mut Vec<u64>) -> Resul
     Ok(())
 }
 
-// Appends the place after each break that ends with one of the units from a place on.
+// Appends the place after each break that ends at or after index `from`; the place of the first unit of all is `start`.
 fn push_rest(units: &[u16], from: usize, start: u64, out: &mut Vec<u64>) -> Result<(), AllocError>
     requires within { from ≤ length units.now }
     requires short { start + length units.now < 2 ^ 64 }
@@ -105,7 +105,7 @@ fn push_rest(units: &[u16], from: usize, start: u64, out: &mut Vec<u64>) -> Resu
     Ok(())
 }
 
-/// How many line breaks the units have.
+/// Returns the number of line breaks.
 pub fn count_breaks(units: &[u16]) -> u64
     ensures breaks { result ≡ break_count units.now }
     ensures few { result < 2 ^ 63 }
@@ -124,10 +124,10 @@ pub fn count_breaks(units: &[u16]) -> u64
         + breaks_between(units, quarter * 3 + at, units.len())
 }
 
-/// From how many units on a text is gone over at four places in turn: memory brings these sooner than one after another.
+/// From this length on a text is read at four places in turn, which memory serves faster than one sequence.
 const LONG: usize = 65_536;
 
-// How far these places are apart; 0 for a text that is gone over from its beginning.
+// Returns the distance between these four places; 0 for a text that is read in one sequence.
 fn apart(units: &[u16]) -> usize
     ensures { result * 4 ≤ length units.now }
 {
@@ -138,7 +138,7 @@ fn apart(units: &[u16]) -> usize
     }
 }
 
-/// How many breaks end with the units between two places.
+/// Counts the breaks that end with one of the units in `from..to`.
 pub fn breaks_between(units: &[u16], from: usize, to: usize) -> u64
     requires { (from ≤ to) × (to ≤ length units.now) }
     ensures { result + breaks_from units.now to ≡ breaks_from units.now from }
@@ -152,7 +152,7 @@ pub fn breaks_between(units: &[u16], from: usize, to: usize) -> u64
     breaks + breaks_in_rest(units, at, to)
 }
 
-// How many breaks end with the units between two places that are at most `LANES` apart.
+// Counts the breaks that end with one of the units in `from..to`, a range of at most `LANES` units.
 fn breaks_in_rest(units: &[u16], from: usize, to: usize) -> u64
     requires between { (from ≤ to) × (to ≤ length units.now) }
     requires near { to ≤ from + 32 }
@@ -177,8 +177,7 @@ fn breaks_one_by_one(units: &[u16], from: usize, to: usize) -> u64
     breaks
 }
 
-/// The place after the `k`-th break that ends with the units between two places; where there are fewer, the second place. Breaks
-/// count from 1.
+/// Returns the offset after the `k`-th break, counted from 1, that ends with one of the units in `from..to`; `to` if there are fewer.
 pub fn nth_break_end(units: &[u16], from: usize, to: usize, k: u64) -> usize
     requires ordered { from ≤ to }
     requires inside { to ≤ length units.now }
@@ -201,7 +200,8 @@ pub fn nth_break_end(units: &[u16], from: usize, to: usize, k: u64) -> usize
     to
 }
 
-/// How long the units are. Cut in two anywhere but inside a CR LF, they are as long as the two parts together.
+/// Returns the length of the text in lines and columns. If a text is cut in two, but not inside a CR LF, its length is the sum of the
+/// lengths of its parts.
 pub fn text_length(units: &[u16]) -> Length
     ensures length { result ≡ text_length units.now }
     ensures parts { (x y : List ℕ) → x ++ y ≡ units.now → joins_pair x y ≡ false
@@ -220,7 +220,7 @@ pub fn text_length(units: &[u16]) -> Length
     Length { lines, columns }
 }
 
-// Whether a break ends with the unit at this place: an LF, or a CR with no LF after it.
+// Returns whether a break ends with the unit at this index: an LF, or a CR that no LF follows.
 fn is_break_end(units: &[u16], at: usize) -> bool
     requires { at < length units.now }
     ensures { result ≡ ends_break (get_or units.now at 0) (drop (at + 1) units.now) }

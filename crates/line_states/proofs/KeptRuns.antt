@@ -1,4 +1,4 @@
--- Laws of lines that are kept one after another.
+-- Laws of lines that are kept with consecutive numbers.
 use Rattle.std.proofs.Common.{◌≡◌, ℕ, zero, suc, ◌+◌, ◌-◌, ◌<◌, ◌≤◌, Bool, true, false, cond, eqb, List, [], ◌∷◌, ◌++◌, length, take, drop, refl, ap, sym, ◌∙◌, subst, arith}
 use Rattle.std.specs.Prelude.{slice_index_or}
 use Rattle.std.proofs.lemmas.Bool.{eq-eqb, eqb-true}
@@ -75,7 +75,7 @@ run_ends least (New ∷ marks) rises = none_left (kept_run (New ∷ marks)) refl
     none_left (suc k) e = absurd (omega arith)
 run_ends least (Kept i ∷ marks) rises = none_goes_on i marks rises.1 rises.2
 
--- no kept line stands behind a run
+-- the line after a run is not kept
 pub none_behind_run : (n : ℕ) (marks : List Mark) → Rises marks → kept_run (drop (kept_run (drop n marks)) (drop n marks)) ≡ 0
 none_behind_run n marks rises = run_ends 1 (drop n marks) (RisesFrom-drop 1 n marks rises)
 

@@ -1,4 +1,4 @@
--- Laws of marks of which each kept one is one of so many lines.
+-- Laws of marks whose kept numbers are at most `lines`.
 use Rattle.std.proofs.Common.{◌≡◌, ℕ, zero, suc, ◌+◌, ◌-◌, ◌<◌, ◌≤◌, List, [], ◌∷◌, ◌++◌, take, drop, refl, ap, ◌∙◌, arith}
 use Rattle.std.specs.Prelude.{⊤, replicate, slice_index_or}
 use Rattle.mark_rules.specs.declared.Mark.{Mark}
@@ -65,7 +65,7 @@ unfolding OfLines
 OfLines-kept lines first zero within = tt
 OfLines-kept lines first (suc more) within = (omega arith, OfLines-kept lines (suc first) more (omega arith))
 
--- the last of kept lines one after another
+-- the last of lines kept with consecutive numbers
 last_is_of : (lines first more : ℕ) → OfLines lines (kept_marks first more) → 0 < more → first + more ≤ lines + 1
 unfolding OfLines
 last_is_of lines first zero of some = absurd (omega arith)
@@ -75,7 +75,7 @@ last_is_of lines first (suc (suc more)) of some =
 
 -- ---- the laws
 
--- an edit keeps only what was kept
+-- a line that is kept after an edit was kept before it
 pub AreOf-edited : (lines first old new : ℕ) (marks : List Mark) → AreOf lines marks → AreOf lines (edited_marks first old new marks)
 AreOf-edited lines first old new marks are =
     let of = OfLines-are lines marks are in
@@ -91,7 +91,7 @@ AreOf-clean lines = AreOf-each lines (clean_marks lines) (OfLines-kept lines 1 l
 pub AreOf-new : (lines new : ℕ) → AreOf lines (replicate new New)
 AreOf-new lines new = AreOf-each lines (replicate new New) (OfLines-new lines new)
 
--- lines that are kept one after another, behind so many
+-- lines kept with consecutive numbers, after the first n lines
 pub run_is_of : (lines n first more : ℕ) (marks : List Mark) → AreOf lines marks → take more (drop n marks) ≡ kept_marks first more → 0 < more
     → first + more ≤ lines + 1
 run_is_of lines n first more marks are run some =

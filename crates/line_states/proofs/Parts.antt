@@ -1,4 +1,4 @@
--- Laws of lines in two parts: what is settled of both is that of the first, and behind it that of the second.
+-- Laws of lines in two parts: the outcome of both is that of the first, followed by that of the second.
 use Rattle.std.proofs.Common.{◌≡◌, ℕ, zero, suc, ◌+◌, Bool, true, false, List, [], ◌∷◌, ◌++◌, length, take, drop, refl, ap, ◌∙◌, Option, arith}
 use Rattle.mark_rules.specs.declared.Mark.{Mark}
 use Rattle.hiding_rules.specs.declared.LineState.{LineState}

@@ -1,4 +1,4 @@
--- Laws of settled marks, where a restarted line is as a new one.
+-- Laws of settled marks, in which a restarted line is new.
 use Rattle.std.proofs.Common.{◌≡◌, ℕ, zero, suc, ◌-◌, ◌⊎◌, Bool, true, false, List, [], ◌∷◌, length, refl, ap, sym, ◌∙◌, inl, inr, arith}
 use Rattle.std.specs.Prelude.{replicate, slice_index_or}
 use Rattle.std.proofs.lemmas.Bool.{cases_lt}
@@ -103,7 +103,7 @@ settled_in_code last n (Kept i ∷ marks) e =
 
 -- ---- a line that is kept still
 
--- it was kept as the same line, and begins as that one did
+-- the line was kept as line `i`, and begins in the same state
 pub record StaysKept (last : Borders) (marks : List Mark) (states : List LineState) (n i : ℕ) : Type 0 where
   pub mark : mark_at n marks ≡ Kept i
   pub begins : slice_index_or states (n - 1) Code ≡ slice_index_or last.begins (i - 1) Code

@@ -1,4 +1,5 @@
--- Laws of lines that are kept one after another, the first of which begins as it did: no line of them is scanned.
+-- Laws of lines kept with consecutive numbers, the first of which begins in the same state as before: none of them is
+-- scanned.
 use Rattle.std.proofs.Common.{◌≡◌, ℕ, zero, suc, ◌+◌, ◌-◌, ◌<◌, ◌≤◌, true, List, [], ◌∷◌, length, take, drop, map, refl, ap, sym, ◌∙◌, subst, arith}
 use Rattle.std.specs.Prelude.{slice_index_or}
 use Rattle.std.proofs.lemmas.List.{get_or_default, drop_more}
@@ -9,7 +10,7 @@ use Rattle.hiding_rules.specs.Known.{Known, same_state, AreChained, all_known}
 use Rattle.line_states.specs.Settling.{Borders, known_lines, settled_marks}
 use Rattle.line_states.proofs.SettledMarks.{began, staying_is_kept}
 
--- what is known of so many lines, from the one of this number on
+-- what is known of `lines` lines, from line `i` on
 abbrev pub run_known : Borders → ℕ → ℕ → List Known
 run_known last i zero = []
 run_known last i (suc lines) =
@@ -34,7 +35,7 @@ run_known-begins last i (suc lines) first within =
     let behind = ap (λ n. drop n last.begins) next in
     ap (λ states. slice_index_or last.begins (i - 1) Code ∷ states) (rest ∙ ap (take lines) (sym behind)) ∙ ap (take (suc lines)) (sym here)
 
--- each began as the one before it ended
+-- each began in the state in which the one before it ended
 run_is_chained : (last : Borders) (i lines : ℕ) → 1 ≤ i → i + lines ≤ length last.begins + 1
     → AreChained (slice_index_or last.begins (i - 1) last.ends) (run_known last i lines) (slice_index_or last.begins (i + lines - 1) last.ends)
 run_is_chained last i zero first within = ap (λ n. slice_index_or last.begins n last.ends) (omega arith)

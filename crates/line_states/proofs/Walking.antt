@@ -1,4 +1,4 @@
--- Laws of the steps of a walk over the lines: one line that is scanned, or kept ones of which none is.
+-- Laws of the steps of a walk over the lines: one scanned line, or kept lines none of which is scanned.
 use Rattle.std.proofs.Common.{◌≡◌, ℕ, suc, ◌+◌, ◌-◌, ◌<◌, ◌≤◌, true, List, [], ◌∷◌, ◌++◌, length, take, drop, map, refl, ap, sym, ◌∙◌, subst, append_assoc, arith}
 use Rattle.std.specs.Prelude.{slice_index_or}
 use Rattle.std.proofs.lemmas.List.{drop_all, drop_more, take-append-drop, drop-drop, drop-map, take-map, map-append, length-take-le, length-drop, length-map}

@@ -1,4 +1,4 @@
--- Laws of a walk over the lines of a text: each step leaves what comes of all lines as it was.
+-- Laws of a walk over the lines of a text: no step changes the outcome of all lines.
 use Rattle.std.proofs.Common.{◌≡◌, ℕ, suc, ◌+◌, ◌-◌, ◌<◌, ◌≤◌, ◌^◌, true, List, [], ◌∷◌, ◌++◌, length, take, drop, ap, sym, ◌∙◌, subst, append_assoc, arith}
 use Rattle.std.proofs.lemmas.List.{append-nil, length-append, length-drop, length-take-le, drop-drop, get_or_push}
 use Rattle.mark_rules.specs.declared.Mark.TheVariants.{Kept, New}
@@ -43,7 +43,7 @@ rises_still t q r v w same rises = subst (λ (o : Outcome). Rises o.marks) (sym 
 
 -- ---- kept lines
 
--- so many are next, from the one of this number on, and the first of them begins as it did
+-- `k` kept lines are next, from line `first` of the last parse on, and the first of them begins in the same state
 pub record RunAhead (t : Task) (q : LinesState) (v : Walk) (first k : ℕ) : Type 0 where
   pub is_task : IsTask t
   pub can : CanSettle t q
@@ -127,7 +127,7 @@ module _ {t : Task} {q : LinesState} {v : Walk} {first k : ℕ} (next : RunAhead
 
 -- ---- a line that is scanned
 
--- it is next
+-- a line to be scanned is next
 pub record LineAhead (t : Task) (q : LinesState) (v : Walk) : Type 0 where
   pub is_task : IsTask t
   pub can : CanSettle t q
@@ -143,7 +143,7 @@ module _ {t : Task} {q : LinesState} {v : Walk} (next : LineAhead t q v) (r : Li
   unfolding end_here
   scanned_step_here = scanned_step t q v.passed v.state next.can next.more next.scanned
 
-  -- an error leaves a front of the lines asked for
+  -- after an error the lines asked for are a prefix
   pub front_of_all : AsksFront ((v.passed + 1) ∷ []) q.asked r.asked → AsksFront (ahead t q v).asked q.asked r.asked
   front_of_all front =
       let behind = outcome_from t q (v.passed + 1) end_here in (
@@ -185,7 +185,7 @@ module _ {t : Task} {q : LinesState} {v : Walk} (next : LineAhead t q v) (r : Li
 
 -- ---- the whole way
 
--- what comes of all lines, with those that were asked for before
+-- the outcome of all lines, with the lines asked for before
 abbrev pub whole : Task → LinesState → Outcome
 whole t q = record {
   marks = (outcome t q).marks;
@@ -232,7 +232,7 @@ ends_so t q r w is_task can same way all past =
       count = way.begins ∙ sym way.marks;
     }
 
--- an error in the midst of the way leaves a front of the lines asked for
+-- after an error in the middle of the walk the lines asked for are a prefix
 pub front_so_far : (t : Task) (q r : LinesState) (w : Walk) (asked : List ℕ) → comes_of t r w ≡ whole t q
     → AsksFront (ahead t r w).asked r.asked asked → AsksFront (outcome t q).asked q.asked asked
 front_so_far t q r w asked all front = (front.0, front.1 ∙ ap (λ (o : Outcome). o.asked) all)

@@ -1,4 +1,4 @@
--- Marks that were put into runs, where there are any.
+-- Marks stored as runs, if there are any.
 use Rattle.std.specs.Prelude.{List, [], Option, Some, None}
 use Rattle.mark_rules.specs.declared.Mark.{Mark}
 use Rattle.line_hunks.specs.Hunks.{Shown}

@@ -1,4 +1,4 @@
--- The marks of lines that were settled.
+-- The marks of settled lines.
 use Rattle.std.specs.Prelude.{List}
 use Rattle.mark_rules.specs.declared.Mark.{Mark}
 use Rattle.line_states.specs.declared.settled.Marks.{Marks}

@@ -1,4 +1,4 @@
--- A walk over the lines of a text: what came of those that it passed, and what comes of those ahead.
+-- A walk over the lines of a text: the outcome of the lines passed, and the outcome of the lines ahead.
 use Rattle.std.specs.Prelude.{◌≡◌, ℕ, ◌+◌, ◌-◌, ◌<◌, ◌≤◌, ◌^◌, List, [], ◌∷◌, ◌++◌, length, take, drop}
 use Rattle.mark_rules.specs.declared.Mark.{Mark}
 use Rattle.mark_rules.specs.declared.Mark.TheVariants.{New}
@@ -9,23 +9,24 @@ use Rattle.line_states.specs.Lines.{LinesState, content_at}
 use Rattle.line_states.specs.Settling.{Borders}
 use Rattle.line_states.specs.Outcome.{Task, Outcome, outcome, outcome_from, followed_by, ended}
 
--- what came of the lines that were passed
+-- the outcome of the lines passed so far
 abbrev pub so_far : Walk → LinesState → Outcome
 so_far w lines = record { marks = w.marks; begins = w.begins; asked = lines.asked; ends = w.state }
 
--- what comes of the others
+-- the outcome of the lines ahead
 abbrev pub ahead : Task → LinesState → Walk → Outcome
 ahead t lines w = outcome_from t lines w.passed w.state
 
--- of all lines
+-- the outcome of all lines
 abbrev pub comes_of : Task → LinesState → Walk → Outcome
 comes_of t lines w = followed_by (so_far w lines) (ahead t lines w)
 
--- the last of these lines is new, if there are any
+-- the last of these lines, if any, is new
 abbrev pub EndsNew : List Mark → Type 0
 EndsNew marks = mark_at (length marks) marks ≡ New
 
--- there is a mark and a state of each line that was passed; kept lines stand ahead only behind a new one
+-- there is a mark and a state for each line passed; if the next line is kept, the last line passed, if any, has a new
+-- mark
 pub record IsOnWay (t : Task) (lines : LinesState) (w : Walk) : Type 0 where
   pub within : w.passed ≤ length t.marks
   pub marks : length w.marks ≡ w.passed
@@ -33,7 +34,7 @@ pub record IsOnWay (t : Task) (lines : LinesState) (w : Walk) : Type 0 where
   pub rises : Rises (comes_of t lines w).marks
   pub apart : 0 < kept_run (drop w.passed t.marks) → EndsNew w.marks
 
--- so many kept lines, from the one of this number on, were lines of the last parse and can be next
+-- `lines` kept lines, from line `first` of the last parse on, can be passed next
 pub record CanKeep (last : Borders) (w : Walk) (first lines : ℕ) : Type 0 where
   pub counted : 1 ≤ first
   pub some : 1 ≤ lines
@@ -45,7 +46,7 @@ pub record CanKeep (last : Borders) (w : Walk) (first lines : ℕ) : Type 0 wher
   pub apart : EndsNew w.marks
   pub rises : Rises (w.marks ++ kept_marks first lines)
 
--- they were passed
+-- these kept lines were passed
 pub record HasKept (last : Borders) (v w : Walk) (first lines : ℕ) : Type 0 where
   pub passed : w.passed ≡ v.passed + lines
   pub marks : w.marks ≡ v.marks ++ kept_marks first lines
@@ -60,13 +61,13 @@ pub record HasScanned (by : Scanner) (old new : LinesState) (v w : Walk) : Type 
   pub state : w.state ≡ (hidden_scan by v.state (content_at (v.passed + 1) old.contents)).state
   pub asked : new.asked ≡ old.asked ++ (v.passed + 1) ∷ []
 
--- a walk went on along the way, and what comes of all lines is the same
+-- the walk passed at least one line, and the outcome of all lines is unchanged
 pub record HasPassed (t : Task) (old new : LinesState) (v w : Walk) : Type 0 where
   pub on : v.passed < w.passed
   pub way : IsOnWay t new w
   pub comes : comes_of t new w ≡ comes_of t old v
 
--- all lines were passed: what came of them, and which were asked for
+-- all lines were passed: their outcome, and the lines asked for
 pub record HasCome (t : Task) (old new : LinesState) (w : Walk) : Type 0 where
   pub marks : w.marks ≡ (outcome t old).marks
   pub begins : w.begins ≡ (outcome t old).begins

@@ -1,4 +1,4 @@
-//! Marks and states that are gathered: those of lines one after another are put into their lists at once.
+//! Collects marks and states. Those of consecutive lines go into their lists together.
 
 ghost use Rattle.std.specs.Prelude.{◌≡◌, ◌+◌, ◌^◌, ◌<◌, ◌≤◌, ◌++◌, ◌∷◌, [], length, replicate, IfOk, OnOk};
 ghost use Rattle.mark_rules.specs.declared.Mark.TheVariants.{New};
@@ -11,11 +11,11 @@ use shared_states::StateList;
 use std::alloc::{AllocError, Global};
 use std::marker::Model;
 
-/// Marks of lines. New lines one after another are put in as one run.
+/// Collected marks of lines. Consecutive new lines are added as one run.
 #[derive(Drop)]
 pub(crate) struct MarkList {
     put: Option<Hunks>,
-    /// How many new lines stand behind those.
+    /// The number of new lines after those in `put`.
     fresh: u64,
 }
 
@@ -31,7 +31,7 @@ impl Model for MarkList {
 }
 
 impl MarkList {
-    /// No line.
+    /// Creates an empty list.
     pub fn none() -> MarkList
         ensures { result ≡ [] }
     {
@@ -41,7 +41,7 @@ impl MarkList {
         }
     }
 
-    /// One more line, which is new. Takes no memory.
+    /// Appends one new line. Allocates no memory.
     pub fn push_new(&mut self)
         requires { length self.old < 2 ^ 62 }
         ensures { self.new ≡ self.old ++ New ∷ [] }
@@ -49,7 +49,7 @@ impl MarkList {
         self.fresh += 1;
     }
 
-    /// Lines that are kept one after another, from this number on, behind the last one, which is new.
+    /// Appends `lines` lines kept with consecutive numbers from `first` on. The last line before them is new.
     pub fn push_kept(&mut self, alloc: Global, first: u64, lines: u64) -> Result<(), AllocError>
         requires first { 1 ≤ first }
         requires some { 1 ≤ lines }
@@ -64,7 +64,7 @@ impl MarkList {
         put_kept(alloc, &mut self.put, first, lines)
     }
 
-    /// The marks, of which there are some.
+    /// Returns the marks, of which there is at least one.
     pub fn into_hunks(self, alloc: Global) -> Result<Hunks, AllocError>
         requires some { 0 < length self }
         requires fits { length self < 2 ^ 62 }
@@ -76,7 +76,7 @@ impl MarkList {
     }
 }
 
-/// So many new lines, maybe none.
+/// Appends `lines` new lines; `lines` may be 0.
 fn put_new(alloc: Global, put: &mut Option<Hunks>, lines: u64) -> Result<(), AllocError>
     requires { length (marks_put put.old) + lines < 2 ^ 62 }
     ensures { OnOk result (marks_put put.new ≡ marks_put put.old ++ replicate lines New) }
@@ -91,7 +91,7 @@ fn put_new(alloc: Global, put: &mut Option<Hunks>, lines: u64) -> Result<(), All
     Ok(())
 }
 
-/// Lines that are kept one after another, behind the last one, which is new.
+/// Appends `lines` lines kept with consecutive numbers from `first` on. The last line before them is new.
 fn put_kept(
     alloc: Global,
     put: &mut Option<Hunks>,
@@ -113,11 +113,11 @@ fn put_kept(
     Ok(())
 }
 
-/// States of lines. Lines in one state one after another are put in as one run.
+/// Collected states of lines. Consecutive lines in one state are added as one run.
 #[derive(Drop)]
 pub(crate) struct StateRuns {
     put: StateList,
-    /// The state of the lines behind those, and how many they are.
+    /// The state of the lines after those in `put`, and their number.
     state: LineState,
     lines: u64,
 }
@@ -132,7 +132,7 @@ impl Model for StateRuns {
 }
 
 impl StateRuns {
-    /// No line.
+    /// Creates an empty list.
     pub fn none() -> StateRuns
         ensures { result ≡ [] }
     {
@@ -143,7 +143,7 @@ impl StateRuns {
         }
     }
 
-    /// One more line.
+    /// Appends one line.
     pub fn push(&mut self, alloc: Global, state: LineState) -> Result<(), AllocError>
         requires { length self.old < 2 ^ 62 }
         ensures { OnOk result (self.new ≡ self.old ++ state ∷ []) }
@@ -158,7 +158,7 @@ impl StateRuns {
         Ok(())
     }
 
-    /// More lines.
+    /// Appends the lines of a list.
     pub fn append(&mut self, alloc: Global, states: StateList) -> Result<(), AllocError>
         requires { length self.old + length states < 2 ^ 62 }
         ensures { OnOk result (self.new ≡ self.old ++ states) }
@@ -169,7 +169,7 @@ impl StateRuns {
         self.put.append(alloc, states)
     }
 
-    /// The states.
+    /// Returns the states.
     pub fn into_list(self, alloc: Global) -> Result<StateList, AllocError>
         requires { length self < 2 ^ 62 }
         ensures { IfOk result (λ states. states ≡ self) }

@@ -1,5 +1,5 @@
-//! In which states the lines of a text begin: kept from parse to parse, and scanned again only where a line is new or
-//! begins in another state.
+//! The states in which the lines of a text begin. They are kept from parse to parse; a line is scanned again only if it
+//! is new or begins in another state.
 #![tactic(auto)]
 
 mod gather;

@@ -1,17 +1,17 @@
-//! A text whose lines are asked for one by one.
+//! A text whose lines are read one by one.
 
 ghost use Rattle.std.specs.Prelude.{◌≡◌, ◌<◌, ◌≤◌, ◌^◌, ◌++◌, ◌∷◌, [], length, sum, OnOk, OnErr};
 
 use std::alloc::AllocError;
 
-/// The lines of a text. Lines are counted from 1.
+/// The lines of a text, numbered from 1.
 pub trait Lines {
     ghost use Rattle.line_states.specs.Lines.{LinesState, content_at, text_weights};
 
     ghost state: { Self → LinesState };
 
-    /// Appends the content of line `n` to `out`, without its break. An error leaves `out` as it was, and the line was
-    /// not asked for.
+    /// Appends the content of line `n`, without its break, to `out`. After an error `out` is unchanged, and the line
+    /// does not count as asked for.
     fn line(&mut self, n: u64, out: &mut Vec<u16>) -> Result<(), AllocError>
         requires first { 1 ≤ n }
         requires there { n ≤ length (state self.old).contents }
@@ -22,6 +22,6 @@ pub trait Lines {
         ensures unasked { OnErr result ((state self.new).asked ≡ (state self.old).asked) }
         ensures contents { (state self.new).contents ≡ (state self.old).contents };
 
-    /// The units of the lines, and the breaks between them, fit 64 bits.
+    /// The number of units of the lines and of breaks between them is less than 2^64.
     ghost fits: { (lines : Self) → sum (text_weights (state lines).contents) < 2 ^ 64 };
 }

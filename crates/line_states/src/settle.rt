@@ -1,4 +1,4 @@
-//! The walk over the lines of a text that tells in which state each begins.
+//! The walk over the lines of a text that finds the state in which each begins.
 
 ghost use Rattle.std.specs.Prelude.{◌≡◌, ◌+◌, ◌^◌, ◌<◌, ◌++◌, ◌∷◌, [], true, length, IfSome, IfNone, IfOk, OnOk, OnErr};
 ghost use Rattle.hiding_rules.specs.Hidden.{scanner};
@@ -17,7 +17,8 @@ use line_hunks::{Hunks, Mark};
 use std::alloc::{AllocError, Global};
 use std::marker::Model;
 
-/// By what lines are settled: their marks, the states of the last parse, and what lines are scanned by.
+/// The inputs of settling lines: their marks, the states of the last parse, and the table and hiding marks for the
+/// scan.
 #[derive(Drop)]
 pub(crate) struct Settler<'s> {
     pub hunks: &'s Hunks,
@@ -38,10 +39,10 @@ impl<'s> Model for Settler<'s> {
         IsTask (task (scanner s.table.now s.hiding.now) s.last.now s.hunks.now.marks) };
 }
 
-/// The lines that were passed so far.
+/// The state of a walk over the lines.
 #[derive(Drop)]
 pub(crate) struct Walk {
-    /// How many they are.
+    /// The number of lines passed so far.
     pub passed: u64,
     /// The state in which the next line begins.
     pub state: LineState,
@@ -61,7 +62,7 @@ impl<'s> Settler<'s> {
         requires { AreOf (length last.now.begins) hunks.now.marks }
         ensures { result ≡ task (scanner table.now hiding.now) last.now hunks.now.marks }
     {
-        // It tells how many lines there may be, and that the kept ones are in order.
+        // The contract of `lines` bounds the number of lines, and shows that the kept ones are in order.
         let _lines = hunks.lines();
         Settler {
             hunks,
@@ -71,7 +72,8 @@ impl<'s> Settler<'s> {
         }
     }
 
-    /// The marks of the lines, where a restarted one is as a new one, and their states. An error is want of memory.
+    /// Returns the marks of the lines, where a restarted line is marked as new, and their states. Fails if memory is
+    /// short.
     pub fn settle<Q: Lines>(
         &self,
         alloc: Global,
@@ -120,7 +122,8 @@ impl<'s> Settler<'s> {
         Ok(walk)
     }
 
-    /// Passes the next line; or all kept ones from it on, where the first of them begins as it did.
+    /// Passes the next line. If it is kept and begins in the same state as before, passes all lines from it on that are
+    /// kept with consecutive numbers.
     fn pass<Q: Lines>(
         &self,
         alloc: Global,
@@ -143,7 +146,8 @@ impl<'s> Settler<'s> {
         }
     }
 
-    /// The number of the line that a line with this mark was, where that one began in this state.
+    /// Returns the number that a line with this mark had in the last parse, if it began in `state` then. None for a new
+    /// or restarted line.
     fn stays(&self, mark: Mark, state: LineState) -> Option<u64>
         requires { IsOfLast self.now.last mark }
         ensures some { IfSome result (λ first. IsKeptAs self.now.last first state mark) }
@@ -155,7 +159,7 @@ impl<'s> Settler<'s> {
         }
     }
 
-    /// Passes kept lines that begin as they did.
+    /// Passes `lines` kept lines, of which the first was line `first` and begins in the same state as before.
     fn keep(&self, alloc: Global, first: u64, lines: u64, walk: &mut Walk) -> Result<(), AllocError>
         requires { CanKeep self.now.last walk.old first lines }
         ensures { OnOk result (HasKept self.now.last walk.old walk.new first lines) }
@@ -168,7 +172,7 @@ impl<'s> Settler<'s> {
         Ok(())
     }
 
-    /// Passes a line that is new or restarted. It is asked for.
+    /// Passes a line that is new or restarted, and asks for its content.
     fn scan<Q: Lines>(
         &self,
         alloc: Global,

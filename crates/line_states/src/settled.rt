@@ -1,4 +1,4 @@
-//! Lines that were settled.
+//! The result of settling the lines of a text.
 
 ghost use Rattle.std.specs.Prelude.{◌≡◌, ◌-◌, ◌≤◌, length, slice_index_or};
 ghost use Rattle.hiding_rules.specs.declared.LineState.TheVariants.{Code};
@@ -8,14 +8,14 @@ use hiding_rules::LineState;
 use line_hunks::Hunks;
 use std::marker::Model;
 
-/// In which state each line of a text begins, and which lines are new or restarted.
+/// The state in which each line of a text begins, and which lines are new or restarted.
 #[derive(Drop)]
 pub struct Settled<'s> {
     pub(crate) marks: Marks<'s>,
     pub(crate) states: LineStates,
 }
 
-/// The marks of lines: those that the lines had, where none was restarted, or others.
+/// The marks of lines: borrowed and unchanged if no line was restarted, or owned.
 #[derive(Drop)]
 pub(crate) enum Marks<'s> {
     Same(&'s Hunks),
@@ -35,7 +35,7 @@ impl<'s> Model for Settled<'s> {
 }
 
 impl<'s> Settled<'s> {
-    /// The marks of the lines, where a restarted line is as a new one.
+    /// Returns the marks of the lines; a restarted line is marked as new.
     pub fn hunks(&self) -> &Hunks
         ensures { result.now.marks ≡ self.now.marks }
     {
@@ -45,7 +45,7 @@ impl<'s> Settled<'s> {
         }
     }
 
-    /// The state in which line `n` begins, from 1.
+    /// Returns the state in which line `n` begins, counted from 1.
     pub fn state(&self, n: u64) -> LineState
         requires some { 1 ≤ n }
         requires within { n ≤ length self.now.states.begins }
@@ -54,7 +54,7 @@ impl<'s> Settled<'s> {
         self.states.state(n)
     }
 
-    /// The states of the lines, for the next parse.
+    /// Returns the states of the lines, for the next parse.
     pub fn into_states(self) -> LineStates
         ensures states { result ≡ self.entry.states }
         ensures count { length result.begins ≡ length self.entry.marks }

@@ -20,7 +20,7 @@ use shared_states::StateList;
 use std::alloc::{AllocError, Global};
 use std::marker::Model;
 
-/// In which states the lines of a text begin, and in which its last one ends.
+/// The states in which the lines of a text begin, and the state in which its last line ends.
 #[derive(Drop)]
 pub struct LineStates {
     pub(crate) begins: StateList,
@@ -36,7 +36,7 @@ impl Model for LineStates {
 }
 
 impl LineStates {
-    /// So many lines that begin in code, as the line behind them would.
+    /// Creates the states of `lines` lines that all begin in code; the last one also ends in code.
     pub(crate) fn in_code(lines: u64) -> LineStates
         ensures begins { result.begins ≡ replicate lines Code }
         ensures ends { result.ends ≡ Code }
@@ -47,7 +47,7 @@ impl LineStates {
         }
     }
 
-    /// The state in which line `n` begins, from 1.
+    /// Returns the state in which line `n` begins, counted from 1.
     pub(crate) fn state(&self, n: u64) -> LineState
         requires some { 1 ≤ n }
         requires within { n ≤ length self.now.begins }
@@ -56,7 +56,7 @@ impl LineStates {
         self.begins.at(n - 1)
     }
 
-    /// The state in which line `n` ends, where 0 stands for none.
+    /// Returns the state in which line `n` ends; for 0, the state in which the text begins.
     pub(crate) fn end(&self, n: u64) -> LineState
         requires { n ≤ length self.now.begins }
         ensures { result ≡ slice_index_or self.now.begins n self.now.ends }
@@ -68,7 +68,7 @@ impl LineStates {
         }
     }
 
-    /// The states in which so many lines begin, from line `first` on.
+    /// Returns the states in which the `lines` lines from line `first` on begin.
     pub(crate) fn part(
         &self,
         alloc: Global,
@@ -85,7 +85,7 @@ impl LineStates {
     }
 }
 
-/// The states of the last parse, and a mark for each line of the text of now.
+/// The states of the last parse, and a mark for each line of the current text.
 #[derive(Drop)]
 pub struct States {
     hunks: Hunks,
@@ -108,7 +108,7 @@ impl Model for States {
 }
 
 impl States {
-    /// One line, which is new. Takes no memory.
+    /// Creates the states of a text of one line, which is new. Allocates no memory.
     pub fn new(alloc: Global) -> States
         ensures marks { result.marks ≡ New ∷ [] }
         ensures last { result.last ≡ borders [] Code }
@@ -116,7 +116,7 @@ impl States {
         States::all_new(alloc, 1)
     }
 
-    /// So many lines, all of them new. Takes no memory.
+    /// Creates the states of a text of `lines` lines, all new. Allocates no memory.
     pub fn all_new(alloc: Global, lines: u64) -> States
         requires some { 1 ≤ lines }
         requires fits { lines < 2 ^ 62 }
@@ -129,8 +129,8 @@ impl States {
         }
     }
 
-    /// Makes room for so many edits. Only this takes memory. An error leaves all as it was, and room that was there
-    /// stays.
+    /// Makes room for `edits` edits. Of the methods that change the states, only this one allocates memory. Also after
+    /// an error the marks and states are unchanged and room that was there stays.
     pub fn reserve(&mut self, edits: u64) -> Result<(), AllocError>
         ensures room { OnOk result (edits ≤ self.new.spare) }
         ensures marks { self.new.marks ≡ self.old.marks }
@@ -140,7 +140,7 @@ impl States {
         self.hunks.reserve(edits)
     }
 
-    /// The lines from line `first` on, `old` of them, became `new` other ones. Neither is 0. Takes no memory.
+    /// Replaces the `old` lines from line `first` on by `new` new lines. Neither number is 0. Allocates no memory.
     pub fn edit(&mut self, first: u64, old: u64, new: u64)
         requires room { 0 < self.old.spare }
         requires first { 1 ≤ first }
@@ -155,7 +155,7 @@ impl States {
         self.hunks.edit(first, old, new);
     }
 
-    /// The text was parsed, and its lines have these states: each line is kept. Takes no memory.
+    /// Takes over the states of the lines after a parse of the text, and marks each line as kept. Allocates no memory.
     pub fn adopt(&mut self, states: LineStates)
         requires { length states.begins ≡ length self.old.marks }
         ensures marks { self.new.marks ≡ clean_marks (length self.old.marks) }
@@ -167,15 +167,16 @@ impl States {
         self.last = states;
     }
 
-    /// The marks of the lines.
+    /// Returns the marks of the lines.
     pub fn hunks(&self) -> &Hunks
         ensures { result.now.marks ≡ self.now.marks }
     {
         &self.hunks
     }
 
-    /// The state in which each line begins, and which lines are restarted. New and restarted lines are asked for, in
-    /// order and each once; no other line is. An error is want of memory: some of them were asked for then.
+    /// Returns the state in which each line begins, and which lines are new or restarted. Asks for the new and
+    /// restarted lines, in order and each once, and for no other line. Fails if memory is short; then only a prefix of
+    /// these lines was asked for.
     pub fn settle<Q: Lines>(
         &self,
         alloc: Global,
@@ -209,7 +210,8 @@ impl States {
         })
     }
 
-    /// Where every line begins in code and no line is restarted. Takes no memory, and asks for no line.
+    /// Returns the result for a text in which every line begins in code and no line is restarted. Allocates no memory,
+    /// and asks for no line.
     pub fn in_code(&self) -> Settled<'_>
         ensures marks { result.marks ≡ self.now.marks }
         ensures begins { result.states.begins ≡ replicate (length self.now.marks) Code }

@@ -6,7 +6,7 @@ use Rattle.mark_rules.specs.declared.Mark.{Mark}
 use Rattle.mark_rules.specs.declared.Mark.TheVariants.{Kept, New}
 use Rattle.mark_rules.specs.Marks.{kept_marks, clean_marks, edited_marks, numbered, kept_run, has_new, GoesOn, RisesFrom, Rises}
 
--- Kept lines one after another.
+-- Kept lines with consecutive numbers.
 
 pub length-kept_marks : (number lines : ℕ) → length (kept_marks number lines) ≡ lines
 length-kept_marks number zero = refl
@@ -44,7 +44,7 @@ pub has_new-kept_marks : (number lines : ℕ) → has_new (kept_marks number lin
 has_new-kept_marks number zero = refl
 has_new-kept_marks number (suc lines) = has_new-kept_marks (suc number) lines
 
--- The kept numbers rise, whatever is edited.
+-- The kept numbers ascend after any edit.
 
 RisesFrom-weaker : (least low : ℕ) (marks : List Mark) → low ≤ least → RisesFrom least marks → RisesFrom low marks
 RisesFrom-weaker least low [] below rises = tt
@@ -62,7 +62,7 @@ RisesFrom-new : (least lines : ℕ) (marks : List Mark) → RisesFrom least mark
 RisesFrom-new least zero marks rises = rises
 RisesFrom-new least (suc lines) marks rises = RisesFrom-new least lines marks rises
 
--- new lines between what stands before one place and behind a later one
+-- new lines between the marks before one index and those after a later one
 abbrev with_new : ℕ → ℕ → ℕ → List Mark → List Mark
 with_new from to more marks = take from marks ++ New ∷ replicate more New ++ drop to marks
 

@@ -8,7 +8,7 @@ use Rattle.mark_rules.specs.Marks.{clean_marks, edited_marks, mark_at, kept_run,
 five_lines_are_kept : clean_marks 5 ≡ Kept 1 ∷ Kept 2 ∷ Kept 3 ∷ Kept 4 ∷ Kept 5 ∷ []
 five_lines_are_kept = refl
 
--- lines 2 and 3 became one
+-- one line replaces lines 2 and 3
 abbrev two_became_one : List Mark
 two_became_one = edited_marks 2 2 1 (clean_marks 5)
 
@@ -30,7 +30,7 @@ none_is_kept_from_a_new_line_on = refl
 two_lines_are_kept_behind_the_edit : kept_run (drop 2 two_became_one) ≡ 2
 two_lines_are_kept_behind_the_edit = refl
 
--- line 2 is gone, so line 3 does not go on from line 1
+-- line 2 is missing, so line 3 does not continue the run of line 1
 a_gap_in_the_numbers_ends_a_run : kept_run (Kept 1 ∷ Kept 3 ∷ []) ≡ 1
 a_gap_in_the_numbers_ends_a_run = refl
 

@@ -1,12 +1,12 @@
-//! Which lines of a text are still those of its last parse: one mark a line. The definitions that contracts cite stand in
-//! `specs/`, their laws in `proofs/`.
+//! Marks of lines: each line of a text has one mark, which says whether the line is unchanged since the last parse. The
+//! definitions that contracts cite are in `specs/`, their laws in `proofs/`.
 #![tactic(auto)]
 
-/// What a line of the text of now is to the text of the last parse.
+/// How a line of the current text relates to the text of the last parse.
 #[derive(Clone, Copy, PartialEq, Eq, Debug)]
 pub enum Mark {
-    /// It is the line of this number, from 1, unchanged.
+    /// The line is unchanged. Its number in the text of the last parse, counted from 1, is given.
     Kept(u64),
-    /// It is none of its lines.
+    /// The line is not in the text of the last parse.
     New,
 }

@@ -1,20 +1,20 @@
--- A supply around a read.
+-- A supply before and after a read.
 use Rattle.std.proofs.Common.{◌≡◌, ℕ, ◌+◌, ◌<◌, ◌≤◌, List, ◌++◌, take, drop, length, min, Some, Bool, arith, refl, sym, ◌∙◌, ap}
 use Rattle.std.proofs.lemmas.List.{take-append-drop, drop-drop, length-drop, nil_from_length}
 use Rattle.std.specs.Prelude.{◌&&◌, ◌==◌, nat_lt}
 use Rattle.script_streams.specs.Streams.{SourceState, Given, greatest_count}
 
--- a read cuts what is left in what it gives and what stays
+-- a read splits the bytes left into those given and those that remain
 pub drop-cut : (bytes : List ℕ) (given count : ℕ) → drop given bytes ≡ take count (drop given bytes) ++ drop (given + count) bytes
 drop-cut bytes given count =
     sym (take-append-drop count (drop given bytes))
     ∙ ap (λ rest. take count (drop given bytes) ++ rest) (drop-drop count given bytes)
 
--- what a supply shows, as its model has it
+-- the model of a supply
 abbrev pub shown : List ℕ → ℕ → Bool → SourceState
 shown bytes given ended = record { left = Some (drop given bytes); given = given; ended = ended; faults = 0 }
 
--- the front of what is left is given, and all of it where that is not more than was asked for
+-- a prefix of the bytes left is given: all of them, if they are at most as many as asked for
 pub Given-front : (bytes buf : List ℕ) (given most count : ℕ) (was ended : Bool) →
     given + count ≤ greatest_count → 0 < most →
     count ≡ min (min most (length (drop given bytes))) (length buf) →

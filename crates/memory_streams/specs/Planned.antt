@@ -1,4 +1,4 @@
--- What contracts see of the sources and sinks in memory, and what a call does to them.
+-- The sources and sinks in memory as contracts see them, and the effect of a call on them.
 use Rattle.std.specs.Prelude.{◌≡◌, ℕ, ◌+◌, min, List, [], ◌++◌, length, Bool, true, ◌&&◌, ◌==◌, nat_lt, nat_le, if◌then◌else◌, Option, Some, None, Result, Ok, Err, is_ok}
 use Rattle.script_streams.specs.declared.Failed.{Failed}
 use Rattle.script_streams.specs.Streams.{SourceState, SinkState}
@@ -9,15 +9,15 @@ use Rattle.memory_streams.specs.Plan.{counted, next_allowance, AnswersByPlan}
 -- ---- sources
 
 pub record PlannedSource : Type 0 where
-  -- what is left and what was given
+  -- the bytes left, and the given ones
   pub state : SourceState
   -- the most bytes that a read gives
   pub each : ℕ
   -- the reads that fail or come short
   pub plan : List Fault
-  -- how many reads were made; the number stands still at the greatest one of 64 bits
+  -- the number of reads made, at most the greatest 64-bit number
   pub calls : ℕ
-  -- how many of them came right after one that answered the end, counted likewise
+  -- the number of reads made right after one that returned the end, with the same limit
   pub reads_past_end : ℕ
 
 -- a source of these bytes before its first read
@@ -25,12 +25,12 @@ abbrev pub new_source : List ℕ → ℕ → List Fault → PlannedSource
 new_source bytes each plan =
     record { state = fresh_source (Some bytes); each = each; plan = plan; calls = 0; reads_past_end = 0 }
 
--- how many bytes there are for a buffer
+-- the number of bytes available for a buffer
 abbrev pub available : Option (List ℕ) → List ℕ → ℕ
 available None buf = 0
 available (Some left) buf = min (length left) (length buf)
 
--- a read does what the plan says of its number, and is counted
+-- a read does what the plan says for its number, and is counted
 pub record ReadsByPlan (answer : Result ℕ Failed) (old new : PlannedSource) (buf : List ℕ) : Type 0 where
   pub planned :
       AnswersByPlan (next_allowance old.plan old.calls old.each) (available old.state.left buf) answer
@@ -45,32 +45,32 @@ pub record ReadsByPlan (answer : Result ℕ Failed) (old new : PlannedSource) (b
 -- ---- sinks
 
 pub record PlannedSink : Type 0 where
-  -- what it took, and its room
+  -- the bytes taken, and the room
   pub state : SinkState
   -- the most bytes that a write takes
   pub each : ℕ
   -- the writes that fail or come short
   pub plan : List Fault
-  -- how many writes were made; the number stands still at the greatest one of 64 bits
+  -- the number of writes made, at most the greatest 64-bit number
   pub calls : ℕ
 
--- a sink with room for so many bytes before its first write
+-- a sink with this room before its first write
 abbrev pub new_sink : ℕ → ℕ → List Fault → PlannedSink
 new_sink room each plan =
     record { state = fresh_sink room (Some []); each = each; plan = plan; calls = 0 }
 
--- what is told after these bytes more: all of them while they fit the room, and from then on nothing
+-- the bytes shown after these more: all of them while they fit the room, and nothing once they did not
 abbrev pub told_with : ℕ → Option (List ℕ) → List ℕ → Option (List ℕ)
 told_with room None bytes = None
 told_with room (Some before) bytes =
     if nat_le (length before + length bytes) room then Some (before ++ bytes) else None
 
--- a write that fails, or takes nothing of a piece that is not empty
+-- a write that fails, or takes nothing of a non-empty piece
 abbrev pub is_fault : Result ℕ Failed → List ℕ → Bool
 is_fault (Err failed) piece = true
 is_fault (Ok count) piece = count == 0 && nat_lt 0 (length piece)
 
--- a write does what the plan says of its number, and is counted
+-- a write does what the plan says for its number, and is counted
 pub record WritesByPlan (answer : Result ℕ Failed) (old new : PlannedSink) (piece : List ℕ) : Type 0 where
   pub planned : AnswersByPlan (next_allowance old.plan old.calls old.each) (length piece) answer
   pub faults :

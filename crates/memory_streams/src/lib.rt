@@ -1,4 +1,4 @@
-//! Sources and sinks in memory: they tell what they hold and took, and fail or come short by a plan.
+//! Sources and sinks in memory: they show what they hold and took, and fail or come short by a plan.
 #![tactic(auto)]
 
 mod plan;

@@ -4,13 +4,13 @@ ghost use Rattle.memory_streams.specs.Plan.{call_of, fault_at, next_allowance, c
 
 use std::alloc::{AllocError, Global};
 
-/// What one call of a source or a sink does other than usual. Calls count from 1.
+/// A fault of one call of a source or a sink. Calls count from 1.
 #[derive(Clone, Copy, PartialEq, Eq, Debug)]
 pub enum Fault {
     /// The call fails.
     Fails { call: u64 },
-    /// The call gives or takes at most so many bytes: 1 or more of a source, for which 0 is the end. A sink that may
-    /// take 0 answers 0, which counts as a fault.
+    /// The call gives or takes at most `most` bytes. For a source `most` is at least 1, since 0 means the end. A sink
+    /// limited to 0 returns 0, which counts as a fault.
     Short { call: u64, most: usize },
 }
 
@@ -24,7 +24,7 @@ impl Fault {
     }
 }
 
-/// Counts the calls, and says of each what it may do. The first fault that names a call decides.
+/// Counts the calls, and returns what each may do. The first fault that names a call decides.
 #[derive(Drop)]
 pub(crate) struct Plan {
     pub(crate) faults: Vec<Fault>,
@@ -42,7 +42,8 @@ impl Plan {
         })
     }
 
-    /// The most bytes that the next call may give or take where otherwise it may `each`, or `None` where it fails.
+    /// Returns the most bytes that the next call may give or take; without a fault that is `each`. `None` if the call
+    /// fails.
     pub(crate) fn next_allowance(&mut self, each: usize) -> Option<usize>
         ensures allowance { result ≡ next_allowance self.old.faults.items self.old.calls each }
         ensures calls { self.new.calls ≡ counted self.old.calls }

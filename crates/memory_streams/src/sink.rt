@@ -11,7 +11,7 @@ use script_streams::{Failed, Sink};
 use std::alloc::{AllocError, Global};
 use std::marker::Model;
 
-/// Takes bytes into memory by a plan, and tells them until they are more than its room. It takes no memory for them.
+/// Takes bytes into memory by a plan, and shows them as long as they fit its room. Taking bytes allocates nothing.
 #[derive(Drop)]
 pub struct MemSink {
     tray: Tray,
@@ -41,8 +41,8 @@ impl Model for MemSink {
 }
 
 impl MemSink {
-    /// A sink with room for that many bytes, of which a write takes at most `each`, 1 or more. A write that the plan
-    /// names fails and takes nothing, or takes less. Of two faults that name the same write the first holds.
+    /// Makes a sink with room for `room` bytes; a write takes at most `each`, which is at least 1. A write named in
+    /// the plan fails and takes nothing, or takes fewer. If two faults name the same write, the first one applies.
     pub fn new(
         alloc: Global,
         room: usize,
@@ -60,21 +60,21 @@ impl MemSink {
         })
     }
 
-    /// All the bytes that it took, or `None` once they were more than its room.
+    /// Returns all the bytes taken; `None` once they exceeded the room.
     pub fn bytes(&self) -> Option<&[u8]>
         ensures { option_copied result ≡ self.now.state.taken }
     {
         self.tray.bytes()
     }
 
-    /// How many writes were made.
+    /// Returns the number of writes made.
     pub fn calls(&self) -> u64
         ensures { result ≡ self.now.calls }
     {
         self.plan.calls
     }
 
-    /// How many of its writes failed, or took nothing of a piece that is not empty.
+    /// Returns the number of writes that failed, or took nothing of a non-empty piece.
     pub fn faults(&self) -> u64
         ensures { result ≡ self.now.state.faults }
     {
@@ -105,7 +105,7 @@ impl Sink for MemSink {
     }
 }
 
-/// Takes bytes into memory, and tells them until they are more than its room. No write of it fails.
+/// Takes bytes into memory, and shows them as long as they fit its room. Its writes never fail.
 #[derive(Drop)]
 pub struct SureSink {
     sink: MemSink,
@@ -123,7 +123,7 @@ impl Model for SureSink {
 }
 
 impl SureSink {
-    /// A sink with room for that many bytes, of which a write takes at most `each`, 1 or more.
+    /// Makes a sink with room for `room` bytes; a write takes at most `each`, which is at least 1.
     pub fn new(alloc: Global, room: usize, each: usize) -> Result<SureSink, AllocError>
         requires { 0 < each }
         ensures { IfOk result (λ sink. sink ≡ new_sink room each []) }
@@ -132,7 +132,7 @@ impl SureSink {
         Ok(SureSink { sink })
     }
 
-    /// All the bytes that it took, or `None` once they were more than its room.
+    /// Returns all the bytes taken; `None` once they exceeded the room.
     pub fn bytes(&self) -> Option<&[u8]>
         ensures { option_copied result ≡ self.now.state.taken }
     {

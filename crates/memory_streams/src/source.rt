@@ -11,7 +11,7 @@ use script_streams::{Failed, Source};
 use std::alloc::{AllocError, Global};
 use std::marker::Model;
 
-/// Gives bytes from memory by a plan, and tells which are left.
+/// Gives bytes from memory by a plan, and shows the bytes left.
 #[derive(Drop)]
 pub struct MemSource {
     supply: Supply,
@@ -40,8 +40,8 @@ impl Model for MemSource {
 }
 
 impl MemSource {
-    /// A source of these bytes, of which a read gives at most `each`, 1 or more. A read that the plan names fails, or
-    /// gives less. Of two faults that name the same read the first holds.
+    /// Makes a source of these bytes; a read gives at most `each`, which is at least 1. A read named in the plan
+    /// fails, or gives fewer. If two faults name the same read, the first one applies.
     pub fn new(
         alloc: Global,
         bytes: &[u8],
@@ -61,28 +61,28 @@ impl MemSource {
         })
     }
 
-    /// The bytes that it has not given yet.
+    /// Returns the bytes not yet given.
     pub fn left(&self) -> &[u8]
         ensures { self.now.state.left ≡ Some result.now }
     {
         self.supply.left()
     }
 
-    /// How many of its reads failed.
+    /// Returns the number of reads that failed.
     pub fn faults(&self) -> u64
         ensures { result ≡ self.now.state.faults }
     {
         self.faults
     }
 
-    /// How many reads came right after one that answered the end.
+    /// Returns the number of reads made right after one that returned the end.
     pub fn reads_past_end(&self) -> u64
         ensures { result ≡ self.now.reads_past_end }
     {
         self.reads_past_end
     }
 
-    /// How many reads were made.
+    /// Returns the number of reads made.
     pub fn calls(&self) -> u64
         ensures { result ≡ self.now.calls }
     {
@@ -110,7 +110,7 @@ impl Source for MemSource {
     }
 }
 
-/// Gives bytes from memory, and tells which are left. No read of it fails.
+/// Gives bytes from memory, and shows the bytes left. Its reads never fail.
 #[derive(Drop)]
 pub struct SureSource {
     source: MemSource,
@@ -128,7 +128,7 @@ impl Model for SureSource {
 }
 
 impl SureSource {
-    /// A source of these bytes, of which a read gives at most `each`, 1 or more.
+    /// Makes a source of these bytes; a read gives at most `each`, which is at least 1.
     pub fn new(alloc: Global, bytes: &[u8], each: usize) -> Result<SureSource, AllocError>
         requires { 0 < each }
         ensures { IfOk result (λ source. source ≡ new_source bytes.now each []) }

@@ -8,7 +8,7 @@ use script_streams::copy_front;
 use std::alloc::{AllocError, Global};
 use std::marker::Model;
 
-/// Bytes, and how many of them were given.
+/// Bytes, the number of them already given, and whether the last read returned the end.
 #[derive(Drop)]
 pub(crate) struct Supply {
     bytes: Vec<u8>,
@@ -43,7 +43,7 @@ impl Supply {
         })
     }
 
-    /// Gives what is left, at most `most` bytes of it and as far as the buffer reaches.
+    /// Gives the next bytes: at most `most`, and at most what fits the buffer. Returns their number.
     pub(crate) fn give(&mut self, buf: &mut [u8], most: usize) -> usize
         requires { 0 < most }
         ensures given { Given result self.old self.new buf.new }
@@ -56,7 +56,7 @@ impl Supply {
         count
     }
 
-    /// Gives nothing to a read that fails.
+    /// Records a read that fails and gives nothing.
     pub(crate) fn give_none(&mut self)
         ensures { self.new ≡ record self.old { ended = false } }
     {
@@ -69,7 +69,7 @@ impl Supply {
         &self.bytes[self.given..]
     }
 
-    /// Whether the last read answered the end.
+    /// Whether the last read returned the end.
     pub(crate) fn has_ended(&self) -> bool
         ensures { result ≡ self.now.ended }
     {

@@ -1,11 +1,11 @@
-//! Room for a number of bytes.
+//! Storage for a limited number of bytes.
 ghost use Rattle.std.specs.Prelude.{◌≡◌, ◌≤◌, IfOk, [], Some, vec_len, vec_capacity};
 ghost use Rattle.std.specs.Option.{option_copied};
 ghost use Rattle.memory_streams.specs.Planned.{told_with};
 
 use std::alloc::{AllocError, Global};
 
-/// Keeps bytes while they fit its room, and tells none once they did not.
+/// Keeps bytes while they fit its room, and shows none once they did not.
 #[derive(Drop)]
 pub(crate) struct Tray {
     pub(crate) bytes: Vec<u8>,
@@ -29,7 +29,7 @@ impl Tray {
         })
     }
 
-    /// Puts the piece behind what is there. It takes no memory.
+    /// Appends the piece if it fits; else no bytes are shown from then on. Allocates nothing.
     pub(crate) fn put(&mut self, piece: &[u8])
         ensures told { bytes_told self.new
             ≡ told_with self.old.room (bytes_told self.old) piece.now }

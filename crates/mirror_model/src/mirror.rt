@@ -99,7 +99,7 @@ impl Mirror {
         Ok(true)
     }
 
-    // Carries out batches that fit. Reserves all room before the first change.
+    // Carries out batches that fit. Reserves all room before the first change. Pieces of few units may be rewritten then.
     fn carry_out(&mut self, batches: &[Batch]) -> Result<(), AllocError>
         requires { first_misfit self.old.units batches.now ≡ None }
         ensures version { self.new.version ≡ self.old.version }
@@ -111,6 +111,7 @@ impl Mirror {
         for batch in batches {
             apply_to_text(&mut self.text, batch.ops());
         }
+        self.text.rewrite_crowded();
         Ok(())
     }
 }

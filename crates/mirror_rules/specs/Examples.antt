@@ -8,7 +8,7 @@ use Rattle.mirror_rules.specs.Following.{followed_by}
 abbrev insert : ℕ → List ℕ → Op
 insert at text = record { span = record { start = at; end = at }; text = text; force = false }
 
--- `x` was put before `ab`, and then `y` behind it
+-- `x` was inserted before `ab`, and then `y` at the end
 abbrev first : EventState
 first = record { from = 1; batches = (insert 0 (codes "x") ∷ []) ∷ [] }
 

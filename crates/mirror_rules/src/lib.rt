@@ -1,48 +1,48 @@
-//! A text that follows another by events: what comes of each event, and of many in turn.
+//! A text that follows another text by events: the result of one event, and of several events in turn.
 #![tactic(auto)]
 
 use thiserror::Error;
 
-/// How many events a mirror took, and how many it did not.
+/// The number of events that a mirror applied, and of those that it skipped.
 #[derive(Clone, Copy, PartialEq, Eq, Debug)]
 pub struct Tally {
-    /// Those that changed its text.
+    /// The number of applied events.
     pub applied: u64,
-    /// Those that it was past.
+    /// The number of events for versions that the mirror is past.
     pub old: u64,
-    /// Those before which others are missing.
+    /// The number of events that arrived while earlier events were missing.
     pub gaps: u64,
 }
 
-/// Why an event was not taken.
+/// The reason why an event was not applied.
 #[derive(Clone, Copy, PartialEq, Eq, Debug, Error)]
 pub enum MirrorError {
-    /// Events before it are missing: the version of the mirror, and the one that the event needs.
+    /// Earlier events are missing: the mirror has version `have`, the event needs version `need`.
     #[error("events are missing before it")]
     Gap { have: u64, need: u64 },
-    /// The batch of this number, from 1 on, does not fit the text of its moment.
+    /// Batch number `batch` of the event, counted from 1, does not fit the text to which it applies.
     #[error("a batch does not fit the text")]
     Misfit { batch: u64 },
-    /// There was no memory for it.
+    /// Out of memory.
     #[error("out of memory")]
     Memory,
 }
 
-/// Why the event after those that were taken ended a run.
+/// The reason why a run of events stopped at the event after the counted ones.
 #[derive(Clone, Copy, PartialEq, Eq, Debug, Error)]
 pub enum HaltCause {
-    /// The batch of this number, from 1 on, does not fit the text of its moment.
+    /// Batch number `batch` of the event, counted from 1, does not fit the text to which it applies.
     #[error("a batch does not fit the text")]
     Misfit { batch: u64 },
-    /// There was no memory for it.
+    /// Out of memory.
     #[error("out of memory")]
     Memory,
 }
 
-/// Events were taken up to one that could not be.
+/// A run of events that stopped at an event which failed.
 #[derive(Clone, Copy, PartialEq, Eq, Debug)]
 pub struct Halt {
-    /// Of the events before that one.
+    /// The counts of the events before the failed one.
     pub tally: Tally,
     pub cause: HaltCause,
 }

@@ -3,7 +3,7 @@
 ghost use Rattle.std.specs.Prelude.{◌≡◌, ◌+◌, ◌<◌, ◌≤◌};
 ghost use Rattle.document_rules.specs.Document.{greatest_version};
 
-use model_page::{Change, Way};
+use model_page::{Change, CompactRoom, Way};
 use std::marker::Model;
 use unit_text::Kind;
 
@@ -17,7 +17,7 @@ pub(crate) enum Action {
 }
 
 /// A prepared change, for `commit` on a document of this version and this kind of line endings. Contracts see the version before it, the
-/// kind and the action.
+/// kind and the action, but not the room.
 #[derive(Drop)]
 pub struct Ready {
     /// The version after the change.
@@ -25,6 +25,8 @@ pub struct Ready {
     /// The kind of line endings before the change.
     kind: Kind,
     action: Action,
+    /// Room to rewrite the text after the change; None if that is not due or memory was short.
+    room: Option<CompactRoom>,
 }
 
 impl Model for Ready {
@@ -40,23 +42,28 @@ impl Model for Ready {
 }
 
 impl Ready {
-    /// Makes one from the version after it, the kind and the action.
-    pub(crate) fn making(next: u64, kind: Kind, action: Action) -> Ready
+    /// Makes one from the version after the change, the kind, the action and the room.
+    pub(crate) fn making(next: u64, kind: Kind, action: Action, room: Option<CompactRoom>) -> Ready
         requires first { 0 < next }
         requires last { next ≤ greatest_version }
         ensures version { result.version + 1 ≡ next }
         ensures kind { result.kind ≡ kind }
         ensures action { result.action ≡ action }
     {
-        Ready { next, kind, action }
+        Ready {
+            next,
+            kind,
+            action,
+            room,
+        }
     }
 
-    /// Returns the version after the change, and the action.
-    pub(crate) fn into_parts(self) -> (u64, Action)
+    /// Returns the version after the change, the action and the room.
+    pub(crate) fn into_parts(self) -> (u64, Action, Option<CompactRoom>)
         ensures next { result.0 ≡ self.version + 1 }
         ensures last { result.0 ≤ greatest_version }
         ensures action { result.1 ≡ self.action }
     {
-        (self.next, self.action)
+        (self.next, self.action, self.room)
     }
 }

@@ -1,4 +1,4 @@
--- What marks tell of the next places of a run.
+-- The marks of the next offsets of a run.
 use Rattle.std.proofs.Common.{◌≡◌, ℕ, zero, suc, ◌+◌, ◌-◌, ◌*◌, ◌/◌, ◌%◌, ◌^◌, ◌<◌, ◌≤◌, ◌==◌, eqb, leb, Bool, cond, true, false, ◌&&◌, ◌||◌, List, [], ◌∷◌, length, map, get_or, refl, ap, sym, subst, ◌∙◌, inl, inr, arith, bit_and, w64}
 use native.Mathlib.Nat.{div-div-eq-div-mul}
 use lib.Count.{count_trailing_zeros}
@@ -94,7 +94,7 @@ one_before run sought s t knows before known few marks = record {
 
 -- several places
 module _ (run sought : List ℕ) (at : ℕ) where
-  -- both units stand where the sought ones may begin
+  -- both units are present where the sought units may begin
   abbrev both : ℕ → ℕ → Bool
   both u v = u == get_or sought 0 0 && v == get_or sought (length sought - 1) 0
 

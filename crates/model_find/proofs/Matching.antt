@@ -1,4 +1,4 @@
--- How a text goes on with the sought units, unit after unit, and where these do not stand.
+-- The match at the end of a text after each unit, and offsets at which the sought units do not occur.
 use Rattle.std.proofs.Common.{◌≡◌, ℕ, zero, suc, ◌+◌, ◌-◌, ◌<◌, ◌≤◌, ◌==◌, ltb, leb, ◌&&◌, ◌||◌, not, Bool, true, false, List, [], ◌∷◌, ◌++◌, length, take, drop, get_or, refl, ap, sym, subst, ◌∙◌, inl, inr, arith}
 use Rattle.std.specs.Int.{from_bool}
 use Rattle.std.specs.Char.Utf16.{is_high_surrogate, is_low_surrogate}
@@ -122,7 +122,7 @@ module _ (kind : Kind) (x sought : List ℕ) where
   pub first_place : (at : ℕ) → EndsWith kind x sought (at + 1) (0 + 1) → cuts_in kind x at ≡ false
   first_place at ends = ap (cuts_in kind x) (omega arith) ∙ ends.begins (omega arith)
 
-  -- fewer of them end what was read where they end the more
+  -- given a match of n units: shorter prefixes at the end of these units, and of the text read
   module _ (at n less : ℕ) (ends : EndsWith kind x sought at n) (fewer : less < n) where
     same_place : 0 < less → cuts_in kind sought (n - less) ≡ cuts_in kind x (at - less)
     same_place some =
@@ -158,7 +158,7 @@ module _ (kind : Kind) (x sought : List ℕ) where
     longer = λ k more few there ends. longest.longer k more (omega arith) there ends;
   }
 
-  -- what was read ends with n of the sought units, and with no more of them after which the unit comes
+  -- the text read ends with n of the sought units, and no longer match can be extended by the unit
   pub record Falls (low at n unit : ℕ) : Type 0 where
     pub ends : EndsWith kind x sought at n
     pub behind : low + n ≤ at
@@ -187,7 +187,7 @@ module _ (kind : Kind) (x sought : List ℕ) where
         ];
       }
 
-  -- more of them would have been matched before
+  -- a longer match would have been found before
   none_longer : (low at n unit : ℕ) → Falls low at n unit → get_or x at 0 ≡ unit → (k : ℕ) → n < k → k + 1 ≤ length sought → low + (k + 1) ≤ at + 1
       → EndsWith kind x sought (at + 1) (k + 1) → ⊥
   none_longer low at n unit falls next k more few there ends =
@@ -235,14 +235,14 @@ module _ (kind : Kind) (x sought : List ℕ) where
             (λ same place. true≢false (sym (and_from _ _ (eq-eqb _ _ same) (not_from_false _ (here ∙ place))) ∙ sym is ∙ other)))
       ]
 
-  -- ---- where they stand
+  -- ---- occurrences
 
   stands_here : (place : ℕ) → stands_at kind x sought place ≡ true → (k : ℕ) → k < length sought → get_or x (place + k) 0 ≡ get_or sought k 0
   stands_here place there k below =
       let goes_on = (starts_is Decides-eqb (drop place x) sought _ refl).0 (and_parts _ _ (and_parts _ _ there).0).0 in
       sym (get_or-drop place x k 0) ∙ front_reads 0 (drop place x) sought (drop (length sought) (drop place x)) goes_on k below
 
-  -- where they stand and end behind what was read, this ends with the first of them
+  -- if they occur at a place in the text read, and end at its end or later, the text read ends with a prefix of them
   pub stands_ends : (place at : ℕ) → stands_at kind x sought place ≡ true → place ≤ at → at ≤ place + length sought → EndsWith kind x sought at (at - place)
   stands_ends place at there ordered within =
       let begins : (leb place (length x) ≡ true) × (not (cuts_in kind x place) ≡ true) = and_parts _ _ (places_of kind x sought place there).0 in
@@ -254,7 +254,7 @@ module _ (kind : Kind) (x sought : List ℕ) where
         begins = λ some. ap (cuts_in kind x) start ∙ not-true _ begins.1;
       }
 
-  -- where what was read ends with all of them, they stand
+  -- if the text read ends with all of them, they occur there
   pub ends_stands : (at : ℕ) → 0 < length sought → at ≤ length x → EndsWith kind x sought at (length sought) → cuts_in kind x at ≡ false
       → stands_at kind x sought (at - length sought) ≡ true
   ends_stands at some within ends place =
@@ -400,7 +400,7 @@ module _ (kind : Kind) (x sought : List ℕ) where
   pub run_within : (run : List ℕ) (start : ℕ) → IsRunAt x start run → 0 < length run → start + length run ≤ length x
   run_within run start is some = omega (arith, ap length is, length-take (length run) (drop start x), length-drop start x)
 
-  -- they don't stand where they can't begin
+  -- they do not occur where they can't begin
   pub none_begins : (run : List ℕ) (start i : ℕ) → IsRunAt x start run → i < length run → 0 < length sought → may_begin run sought i ≡ false
       → stands_at kind x sought (start + i) ≡ false
   none_begins run start i is inside some none =
@@ -433,7 +433,7 @@ module _ (x rest run left : List ℕ) (at : ℕ) (there : rest ≡ drop at x) (p
   pub next_within : at ≤ length x → at + length run ≤ length x
   next_within inside = omega (arith, length-drop at x, ap length whole, length-append run left)
 
--- ---- what stood in a list stays at its front
+-- ---- the old items of a list stay at its front
 
 pub kept_on : (old now new : List Span) → take (length old) now ≡ old → take (length now) new ≡ now → take (length old) new ≡ old
 kept_on old now new first second =
@@ -443,7 +443,7 @@ kept_on old now new first second =
 pub kept : (old : List Span) → take (length old) old ≡ old
 kept old = take_all (length old) old (omega arith)
 
--- ---- the borders of all fronts
+-- ---- the borders of all prefixes
 
 module _ (kind : Kind) (sought : List ℕ) where
   pub first_border : IsLongest (length sought) kind sought sought 1 1 0

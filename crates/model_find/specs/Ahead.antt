@@ -1,10 +1,10 @@
--- What is known of the next places of a run.
+-- The known candidate offsets of a run.
 use Rattle.std.specs.Prelude.{ℕ, ◌≡◌, ◌+◌, ◌^◌, ◌<◌, ◌≤◌, List, length}
 use Rattle.std.specs.Int.{bit_at, from_bool}
 use Rattle.model_find.specs.declared.starts.Starts.{Starts}
 use Rattle.model_find.specs.Matching.{may_begin}
 
--- the lowest bits of the marks tell of the known places, one for each, whether the sought units may begin there, and no other bit is set
+-- bit k of the marks, for k below `known`, says whether the sought units may begin at `at + k`; no other bit is set
 pub record KnowsStarts (run sought : List ℕ) (starts : Starts) : Type 0 where
   pub within : starts.at + starts.known ≤ length run
   pub few : starts.known ≤ 32

@@ -13,7 +13,7 @@ two_of_three = record { few = omega arith; there = omega arith; same = same; beg
     same (suc zero) below = refl
     same (suc (suc k)) below = absurd (omega arith)
 
--- a front of one unit has none that is shorter, and one of two equal units ends with the first of them
+-- a prefix of one unit has an empty border, and one of two equal units has a border of one unit
 borders_of_two : AreBorders Mixed (codes "aa") (0 ∷ 1 ∷ [])
 borders_of_two zero some few = absurd (omega arith)
 borders_of_two (suc zero) some few = record {

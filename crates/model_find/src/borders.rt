@@ -1,4 +1,4 @@
-//! How far a text has come with the sought units, unit after unit (Knuth, Morris, Pratt).
+//! Border table and matching step of the Knuth-Morris-Pratt algorithm.
 
 ghost use Rattle.std.specs.Prelude.{◌≡◌, ℕ, ◌+◌, ◌-◌, ◌*◌, ◌<◌, ◌≤◌, ◌==◌, ◌&&◌, not, List, [], ◌∷◌, length, slice_index, IfOk};
 ghost use Rattle.unit_text.specs.Kinds.{cuts_in};
@@ -8,7 +8,8 @@ use std::alloc::{AllocError, Global};
 use steps::Steps;
 use unit_text::{CARRIAGE_RETURN, Kind, LINE_FEED, cuts_pair};
 
-/// Whether no place of a text of the kind is between these two units.
+/// Returns whether the offset between the two units is no place of a text of the kind: they are the CR and LF of a line ending of the
+/// kind `Crlf`, or a surrogate pair.
 pub(crate) fn cuts_between(kind: Kind, before: u16, unit: u16) -> bool
     ensures { result ≡ cuts_in kind (before ∷ unit ∷ []) 1 }
 {
@@ -16,8 +17,8 @@ pub(crate) fn cuts_between(kind: Kind, before: u16, unit: u16) -> bool
     in_ending || cuts_pair(&[before, unit], 1)
 }
 
-/// With how many of the sought units a text ends after one unit more, where it ended with so many before it. The borders are known of as
-/// many fronts.
+/// Returns how many of the sought units are matched at the end of a text after the next unit `unit`. Before it `matched` are matched, and
+/// `before` is the last unit. `borders` has an entry for each prefix of at most `matched` units.
 pub(crate) fn extended<L>(
     kind: Kind,
     sought: &[u16],
@@ -47,7 +48,7 @@ pub(crate) fn extended<L>(
     usize::from(begins(kind, sought, before, unit))
 }
 
-// Whether the sought units may begin with this unit of a text, which comes behind another.
+// Returns whether an occurrence may begin with `unit`, which comes after `before` in the text.
 fn begins(kind: Kind, sought: &[u16], before: u16, unit: u16) -> bool
     requires { 0 < length sought.now }
     ensures { result ≡ (slice_index sought.now 0 == unit
@@ -56,7 +57,7 @@ fn begins(kind: Kind, sought: &[u16], before: u16, unit: u16) -> bool
     sought[0] == unit && !cuts_between(kind, before, unit)
 }
 
-/// For each front of the sought units, from the shortest on, how many units its longest border has that is shorter than itself.
+/// Returns the border table: for each non-empty prefix of the sought units, from the shortest on, the length of its longest proper border.
 pub(crate) fn borders_of<L>(
     alloc: Global,
     kind: Kind,

@@ -1,14 +1,14 @@
-//! Where a sought text may begin, by lanes: several places are looked at together.
+//! A SIMD test of several offsets at once for the beginning of a sought text.
 
 ghost use Rattle.std.specs.Prelude.{◌≡◌, ◌+◌, ◌-◌, ◌<◌, ◌≤◌, ◌==◌, ◌&&◌, length, slice_index};
 ghost use Rattle.std.specs.Simd.Lanes.{chunk, zip2, mask_l};
 
 use std::simd::prelude::*;
 
-/// How many places are looked at together.
+/// The number of offsets that are tested at once.
 pub(crate) const LANES: usize = 32;
 
-/// At which of `LANES` places a unit stands, and another one so far behind it: a bit for each, the lowest for the first.
+/// Tests `LANES` offsets from `at` on: bit k of the result says whether the run has `unit` at `at + k` and `other` at `at + k + apart`.
 #[inline(always)]
 pub(crate) fn both_in_block(run: &[u16], at: usize, unit: u16, apart: usize, other: u16) -> u64
     requires { at + apart + 32 ≤ length run.now }

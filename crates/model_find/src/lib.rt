@@ -1,4 +1,4 @@
-//! Where a text stands in another one, which is read run by run, and the edits that replace it everywhere.
+//! Search for a text in another one, which is read run by run, and the edits that replace all occurrences.
 #![tactic(auto)]
 
 mod borders;
@@ -18,9 +18,9 @@ use text_lengths::Span;
 use text_rules::Op;
 use unit_text::{ByRuns, Flat, Kind, Reader, Units};
 
-/// Appends the spans of the text at which these units stand, from left to right, none overlapping the one before. After an error `out`
-/// is as it was. A text of n units in which m are sought takes at most 4 * (n + m) looks at a unit, each of which is a step, and memory
-/// for m numbers.
+/// Appends the spans of the occurrences of `sought`, which is not empty, from left to right and without overlaps. After an error `out`
+/// is unchanged. For a text of n units and m sought units it takes at most 4 * (n + m) looks at a unit, each of which is a step, and
+/// allocates m numbers beside `out`.
 pub fn find_all<F: Flat, L>(
     text: &F,
     sought: &[u16],
@@ -38,7 +38,7 @@ pub fn find_all<F: Flat, L>(
     find_in(ByRuns::new(text), text.kind(), sought, out, looks)
 }
 
-/// The same in a text of this kind that is read by such a reader, of which it takes all that is left.
+/// Does the same as `find_all` for a text of the kind `kind`, read from `reader` to its end.
 pub fn find_in<'t, R: Reader<'t>, L>(
     reader: R,
     kind: Kind,
@@ -72,7 +72,7 @@ pub fn find_in<'t, R: Reader<'t>, L>(
     Ok(())
 }
 
-/// The edits that put a text in the place of each span at which the sought units stand, and force no decoration.
+/// Returns the edits that replace each occurrence of `sought`, which is not empty, by `with`. They force no decoration.
 pub fn ops_for<'t, R: Reader<'t>, L>(
     alloc: Global,
     reader: R,

@@ -1,4 +1,4 @@
-//! A search on its way through a text.
+//! The state of a search in a text.
 
 ghost use Rattle.std.specs.Prelude.{◌≡◌, ℕ, ◌+◌, ◌-◌, ◌*◌, ◌<◌, ◌≤◌, ◌^◌, false, List, length, take, slice_index, OnOk};
 ghost use Rattle.text_lengths.specs.declared.Span.{Span};
@@ -12,17 +12,17 @@ use steps::Steps;
 use text_lengths::Span;
 use unit_text::{Kind, Reader};
 
-/// What is sought, with the borders of its fronts, and how far the text was read that is searched.
+/// The sought units with their border table, and the state of the search in the text read so far.
 #[derive(Drop)]
 pub(crate) struct Search<'s> {
     pub kind: Kind,
     pub sought: &'s [u16],
     pub borders: &'s [usize],
-    /// How many units were read.
+    /// The number of units read.
     pub at: u64,
-    /// The last of them; 0 where there is none.
+    /// The last unit read; 0 if there is none.
     pub before: u16,
-    /// With how many of the sought units they end.
+    /// The number of sought units matched at the end of the text read.
     pub matched: usize,
     ghost some: { 0 < length sought.now },
     ghost fronts: { AreBorders kind sought.now borders.now },
@@ -34,7 +34,7 @@ pub(crate) struct Search<'s> {
 impl Search<'_> {
     ghost use Rattle.model_find.specs.Searching.{IsSame, StandsIn, ReadsRun, PassesOver, ReadsUnit, SettlesBefore};
 
-    /// Reads what is left of the text, and appends the spans that are found. After an error some of them stand behind what was there.
+    /// Reads the rest of the text and appends the spans found. After an error some of them may be left after the old items of `out`.
     pub(crate) fn through_all<'t, R: Reader<'t>, L>(
         &mut self,
         mut reader: R,
@@ -54,7 +54,7 @@ impl Search<'_> {
         self.finish(out)
     }
 
-    // Reads the run that comes next in the text, and appends the spans that are found, but for one that ends with the run.
+    // Reads the next run of the text and appends the spans found, except one that ends at the end of the run.
     fn through<L>(
         &mut self,
         run: &[u16],
@@ -79,7 +79,7 @@ impl Search<'_> {
         Ok(())
     }
 
-    // Where nothing is matched: passes places of the run at which the sought text can't begin. Answers where the search goes on.
+    // If nothing is matched, skips offsets of the run at which the sought text can't begin. Returns the offset at which the search goes on.
     fn skip<L>(
         &mut self,
         run: &[u16],
@@ -112,7 +112,7 @@ impl Search<'_> {
         start
     }
 
-    // Passes the places of the run between these two, at none of which the sought text begins.
+    // Skips the offsets of the run from `from` to `to`, at none of which the sought text begins.
     fn pass(&mut self, run: &[u16], from: usize, to: usize)
         requires ordered { from ≤ to }
         requires within { to ≤ length run.now }
@@ -132,7 +132,7 @@ impl Search<'_> {
         }
     }
 
-    // Reads the unit that comes next in the text, and appends the span that ends before it, if one is found there.
+    // Reads the next unit of the text and appends the span that ends before it, if one is found there.
     fn feed<L>(
         &mut self,
         unit: u16,
@@ -162,7 +162,8 @@ impl Search<'_> {
         Ok(())
     }
 
-    // Where all of the sought units are matched: appends their span, unless no place of the text is between them and the unit after them.
+    // If all sought units are matched, appends their span, unless no place lies between them and the next unit; then the longest border
+    // stays matched.
     fn settle<L>(
         &mut self,
         unit: u16,
@@ -191,7 +192,7 @@ impl Search<'_> {
         Ok(())
     }
 
-    // Appends the span that ends with the text, if one is found there.
+    // Appends the span that ends at the end of the text, if one is found there.
     fn finish(&self, out: &mut Vec<Span>) -> Result<(), AllocError>
         ensures found { (x : List ℕ) (all : List Span) → StandsIn x all out.old.items self.now
             → self.now.at ≡ length x → OnOk result (out.new.items ≡ all) }
@@ -204,7 +205,7 @@ impl Search<'_> {
         Ok(())
     }
 
-    // The span of the matched units.
+    // Returns the span of the matched units.
     fn found(&self) -> Span
         ensures { result ≡ record { start = self.now.at - self.now.matched; end = self.now.at } }
     {

@@ -1,4 +1,4 @@
-//! The places of a run at which the sought text may begin.
+//! The offsets of a run at which the sought text may begin.
 
 ghost use Rattle.std.specs.Prelude.{◌≡◌, ℕ, ◌+◌, ◌-◌, ◌*◌, ◌<◌, ◌≤◌, true, false, List, length, max};
 ghost use Rattle.model_find.specs.Matching.{may_begin};
@@ -7,7 +7,7 @@ ghost use Rattle.model_find.specs.Ahead.{KnowsStarts};
 use crate::lanes::{LANES, both_in_block};
 use steps::Steps;
 
-/// What is known of the next places of a run: at which of them the sought text may begin, a bit for each, the lowest for the first.
+/// The offsets of a run from `at` on, of which `known` are known: bit k of `marks` says whether the sought text may begin at `at + k`.
 #[derive(Drop)]
 pub(crate) struct Starts {
     pub at: usize,
@@ -16,7 +16,7 @@ pub(crate) struct Starts {
 }
 
 impl Starts {
-    /// Nothing is known yet.
+    /// Returns the state with no known offsets.
     pub(crate) fn none() -> Starts
         ensures end { result.at + result.known ≡ 0 }
         ensures knows { (run sought : List ℕ) → KnowsStarts run sought result }
@@ -28,7 +28,7 @@ impl Starts {
         }
     }
 
-    /// Forgets the places before this one.
+    /// Goes on to the offset `at`, and forgets the offsets before it.
     pub(crate) fn go_to(&mut self, at: usize)
         requires ordered { self.old.at ≤ at }
         requires few { self.old.known ≤ 32 }
@@ -48,7 +48,7 @@ impl Starts {
         }
     }
 
-    /// The first place from here on at which the sought text may begin; the length of the run where there is none.
+    /// Returns the first offset from `self.at` on at which the sought text may begin; the length of the run if there is none.
     pub(crate) fn next<L>(&mut self, run: &[u16], sought: &[u16], looks: &mut Steps<L>) -> usize
         requires some { 0 < length sought.now }
         requires knows { KnowsStarts run.now sought.now self.old }
@@ -74,7 +74,7 @@ impl Starts {
         self.at + self.marks.trailing_zeros() as usize
     }
 
-    // Looks at the next places, where nothing is known of them: twice at each. The last places of a run are looked at one by one.
+    // Computes `known` and `marks` for the offsets from `at` on, with two looks at each. Near the end of the run each is tested by itself.
     fn look(&mut self, run: &[u16], sought: &[u16])
         requires some { 0 < length sought.now }
         requires inside { self.old.at < length run.now }
@@ -94,7 +94,7 @@ impl Starts {
     }
 }
 
-// At which of so many places the sought text may begin: a bit for each, the lowest for the first.
+// Returns the marks of the offsets from `at` to `at + known`: bit k says whether the sought text may begin at `at + k`.
 #[inline(always)]
 fn marks_one_by_one(run: &[u16], sought: &[u16], at: usize, known: usize) -> u64
     requires some { 0 < length sought.now }
@@ -111,8 +111,8 @@ fn marks_one_by_one(run: &[u16], sought: &[u16], at: usize, known: usize) -> u64
     marks
 }
 
-// Whether the sought text may begin at a place of the run: its first unit stands there, and its last one where it would end, if that is in
-// the run.
+// Returns whether the sought text may begin at the offset `at`: the run has its first unit there, and its last unit where it would end,
+// if that is inside the run.
 fn may_begin(run: &[u16], sought: &[u16], at: usize) -> bool
     requires some { 0 < length sought.now }
     requires inside { at < length run.now }

@@ -1,17 +1,33 @@
--- When a text is written anew, and what its page is then.
-use Rattle.std.specs.Prelude.{ℕ, ◌≡◌, ◌+◌, ◌*◌, ◌≤◌, ◌&&◌, nat_le, nat_lt, Bool, length}
+-- When a text is rewritten, and its page after that.
+use Rattle.std.specs.Prelude.{ℕ, ◌≡◌, ◌+◌, ◌*◌, ◌≤◌, ◌&&◌, nat_le, nat_lt, Bool, List, length}
+use Rattle.line_starts.specs.Starts.{break_count}
 use Rattle.chunk_buffers.specs.Chunks.{unit_count, at_most_64_bits}
+use Rattle.text_buffer.specs.declared.room.Need.{Need}
 use Rattle.text_buffer.specs.Text.{Text}
 use Rattle.model_page.specs.State.{PageState, KeepsParse, flat_text}
 use Rattle.model_page.specs.declared.compact.TheConstants.{MOST_COMPACTED, MOST_TIMES_HELD, MOST_HELD}
 
--- whether so many units in buffers are far more than a text of that length, which is not too long to be written anew
+-- the buffers hold far more than a text of this length, which is short enough to be rewritten
 abbrev pub outgrows : ℕ → ℕ → Bool
 outgrows units held = nat_le units MOST_COMPACTED && nat_lt (MOST_TIMES_HELD * units + MOST_HELD) held
 
--- whether those of the text are, where it has a piece
+-- the text is rewritten: its buffers hold far more, and it is not empty
 abbrev pub is_outgrown : Text → Bool
-is_outgrown text = outgrows (length text.units) (at_most_64_bits (unit_count text.buffers)) && nat_lt 0 (length text.spans)
+is_outgrown text = outgrows (length text.units) (at_most_64_bits (unit_count text.buffers)) && nat_lt 0 (length text.units)
+
+-- the most units and breaks that fit the room to rewrite a text
+pub record MostFitting : Type 0 where
+  pub units : ℕ
+  pub breaks : ℕ
+
+-- whether a text fits it
+abbrev pub fits : MostFitting → List ℕ → Bool
+fits most units = nat_le (length units) most.units && nat_le (break_count units) most.breaks
+
+-- after edits with this need the text fits the room
+pub record HasRoomAfter (text : Text) (need : Need) (room : MostFitting) : Type 0 where
+  pub units : length text.units + need.units ≤ room.units
+  pub breaks : break_count text.units + need.breaks ≤ room.breaks
 
 -- the same text, in one piece, and so in no more than before
 pub record IsCompactOf (old new : Text) : Type 0 where

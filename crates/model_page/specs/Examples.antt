@@ -1,5 +1,5 @@
 -- Worked examples of the definitions.
-use Rattle.std.specs.Prelude.{◌≡◌, ℕ, List, [], ◌∷◌, codes, false, refl}
+use Rattle.std.specs.Prelude.{◌≡◌, ℕ, List, [], ◌∷◌, codes, true, false, refl}
 use Rattle.text_rules.specs.declared.Op.{Op}
 use Rattle.mark_rules.specs.declared.Mark.TheVariants.{Kept, New}
 use Rattle.mark_rules.specs.Marks.{clean_marks}
@@ -8,6 +8,7 @@ use Rattle.decoration_rules.specs.Recasts.{RecastState}
 use Rattle.document_rules.specs.Document.{FlatChange, batch}
 use Rattle.model_page.specs.declared.change.Change.TheVariants.{Ops, Endings}
 use Rattle.model_page.specs.declared.change.Way.TheVariants.{Back, On}
+use Rattle.model_page.specs.Compact.{fits}
 use Rattle.model_page.specs.InTurn.{edits_along, edits_of_first}
 use Rattle.model_page.specs.LineMarks.{marked_by, marked_backwards, marked_back}
 
@@ -69,3 +70,10 @@ equal_endings_are_not_told = refl
 
 endings_on_the_way_back : edits_along Back (Endings to_feeds) ≡ ending 5 6 (13 ∷ 10 ∷ []) ∷ ending 1 2 (13 ∷ 10 ∷ []) ∷ []
 endings_on_the_way_back = refl
+
+-- three lines have five units and two breaks
+three_lines_fit : fits (record { units = 5; breaks = 2 }) three_lines ≡ true
+three_lines_fit = refl
+
+three_lines_take_two_breaks : fits (record { units = 9; breaks = 1 }) three_lines ≡ false
+three_lines_take_two_breaks = refl

@@ -1,41 +1,131 @@
-//! Text that is written anew: a text whose buffers hold far more than it, and pieces of few units.
+//! Rewrites a text whose buffers hold far more than it, and adjacent pieces of few units.
 
-ghost use Rattle.std.specs.Prelude.{◌≡◌, ◌≢◌, ◌≤◌, true, Ok, length, IfOk, IfSome, is_some};
+ghost use Rattle.std.specs.Prelude.{◌≡◌, ◌<◌, ◌≤◌, ◌&&◌, true, false, length, IfOk, IfSome, is_some};
+ghost use Rattle.unit_text.specs.Kinds.{IsOfKind};
 ghost use Rattle.chunk_buffers.specs.Chunks.{Extends};
-ghost use Rattle.model_page.specs.Compact.{IsCompacted, IsCompactOf, is_outgrown};
+ghost use Rattle.model_page.specs.Compact.{IsCompacted, IsCompactOf, HasRoomAfter, fits, is_outgrown};
 
 use crate::page::Page;
-use std::alloc::AllocError;
-use text_buffer::TextBuffer;
-use text_lengths::Span;
+use std::alloc::{AllocError, Global};
+use std::marker::Model;
+use text_buffer::{Need, TextBuffer};
 use unit_text::Flat;
 
-/// A text of more units than that stays in its buffers, so that no edit waits long for it.
+/// A longer text, in units, is not rewritten, so that no edit takes long.
 pub const MOST_COMPACTED: u64 = 1 << 20;
 
-/// The buffers hold at most this many times the units of the text, and `MOST_HELD` more, before it is written anew.
+/// A text is rewritten if its buffers hold more than this many times its units, and `MOST_HELD` more.
 pub const MOST_TIMES_HELD: u64 = 4;
 
-/// The most units that the buffers hold beside `MOST_TIMES_HELD` times those of the text, before it is written anew.
+/// The number of units that the buffers may hold beside `MOST_TIMES_HELD` times those of the text.
 pub const MOST_HELD: u64 = 1 << 16;
 
-impl Page {
-    /// Writes a text of at most 2^20 units anew, into one piece, where its buffers hold more than 4 times its units and 2^16, and tells
-    /// whether it did. The buffers with all that was taken out go. Where memory is short the page stays as it is. An empty text stays too.
-    pub fn compact(&mut self) -> Result<bool, AllocError>
-        ensures page { IsCompacted self.old self.new }
-        ensures answer { IfOk result (λ written. written ≡ is_outgrown self.old.text) }
-        ensures written { result ≡ Ok true → length self.new.text.spans ≤ 1 }
-        ensures same { result ≢ Ok true → self.new ≡ self.old }
+/// Room to rewrite a page's text as one piece. Contracts see how many units and breaks fit.
+#[derive(Drop)]
+pub struct CompactRoom {
+    /// As long as the longest text that fits.
+    units: Vec<u16>,
+    /// The most breaks that fit.
+    breaks: u64,
+    /// A text with room for one edit of that many units and breaks.
+    text: TextBuffer,
+}
+
+impl Model for CompactRoom {
+    ghost use Rattle.std.specs.Prelude.{length};
+    ghost use Rattle.text_buffer.specs.Room.{IsEnough};
+    ghost use Rattle.model_page.specs.Compact.{MostFitting};
+
+    ghost Value = { MostFitting };
+
+    ghost view = { λ r. record { units = length r.units.items; breaks = r.breaks } };
+
+    ghost invariant = { λ r. IsEnough r.text.room
+        (record { edits = 1; units = length r.units.items; breaks = r.breaks }) };
+}
+
+impl CompactRoom {
+    // Reserves room for a text of at most `units` units and `breaks` breaks.
+    fn taken(alloc: Global, units: u64, breaks: u64) -> Result<CompactRoom, AllocError>
+        ensures units { IfOk result (λ room. room.units ≡ units) }
+        ensures breaks { IfOk result (λ room. room.breaks ≡ breaks) }
     {
-        let Some(text) = self.compacted()? else {
-            return Ok(false);
-        };
-        self.text = text;
-        Ok(true)
+        let read = vec![in alloc; 0; units as usize]?;
+        let mut text = TextBuffer::new(alloc);
+        text.reserve(Need {
+            edits: 1,
+            units,
+            breaks,
+        })?;
+        Ok(CompactRoom {
+            units: read,
+            breaks,
+            text,
+        })
     }
 
-    /// Writes pieces of few units that lie side by side anew, as one, as `TextBuffer::rewrite_crowded` does. It takes no memory.
+    // Returns whether the text fits.
+    fn fits(&self, text: &TextBuffer) -> bool
+        ensures { result ≡ fits self.now text.now.units }
+    {
+        text.len() <= self.units.len() as u64 && text.line_count().saturating_sub(1) <= self.breaks
+    }
+
+    // Returns the text in one piece.
+    fn filled(self, text: &TextBuffer) -> TextBuffer
+        requires fits { fits self text.now.units ≡ true }
+        requires some { 0 < length text.now.units }
+        requires endings { IsOfKind text.now.kind text.now.units }
+        ensures { IsCompactOf text.now result }
+    {
+        // A text that has units has a piece.
+        let _runs = text.runs_from(0);
+        let CompactRoom {
+            mut units,
+            text: mut new,
+            ..
+        } = self;
+        let read = &mut units[..text.len() as usize];
+        text.read_into(0, read);
+        new.recast(text.kind(), read);
+        new
+    }
+}
+
+impl Page {
+    /// Reserves room to rewrite the text after a change with this need, if it has 1 to 2^20 units and its buffers hold more than 4 times as
+    /// many and 2^16; else returns None.
+    pub fn compact_room(&self, need: Need) -> Result<Option<CompactRoom>, AllocError>
+        ensures due { IfOk result (λ room. is_some room ≡ is_outgrown self.now.text) }
+        ensures enough { IfOk result (λ room. IfSome room (HasRoomAfter self.now.text need)) }
+    {
+        if !self.is_outgrown() {
+            return Ok(None);
+        }
+        // An edit that cuts a CR LF makes a break.
+        let units = self.text.len().checked_add(need.units).ok_or(AllocError)?;
+        let cut = need.edits.saturating_mul(2);
+        let breaks = self.text.line_count().saturating_add(cut);
+        let breaks = breaks.checked_add(need.breaks).ok_or(AllocError)?;
+        Ok(Some(CompactRoom::taken(self.alloc, units, breaks)?))
+    }
+
+    /// Rewrites the text as one piece in this room, if it has 1 to 2^20 units, its buffers hold more than 4 times as many and 2^16, and it
+    /// fits. Returns whether it did. It takes no memory.
+    pub fn compact(&mut self, room: CompactRoom) -> bool
+        ensures page { IsCompacted self.old self.new }
+        ensures answer { result ≡ (is_outgrown self.old.text && fits room self.old.text.units) }
+        ensures written { result ≡ true → length self.new.text.spans ≤ 1 }
+        ensures same { result ≡ false → self.new ≡ self.old }
+    {
+        if !self.is_outgrown() || !room.fits(&self.text) {
+            return false;
+        }
+        self.text = room.filled(&self.text);
+        true
+    }
+
+    /// Rewrites adjacent pieces of few units as one, as `TextBuffer::rewrite_crowded` does. It takes no memory.
     pub fn rewrite_crowded(&mut self)
         ensures page { IsCompacted self.old self.new }
         ensures buffers { Extends self.old.text.buffers self.new.text.buffers }
@@ -43,30 +133,13 @@ impl Page {
         self.text.rewrite_crowded();
     }
 
-    // The text in one piece; None where it stays as it is.
-    fn compacted(&self) -> Result<Option<TextBuffer>, AllocError>
-        ensures found { IfOk result (λ found. is_some found ≡ is_outgrown self.now.text) }
-        ensures text { IfOk result (λ found. IfSome found (IsCompactOf self.now.text)) }
+    // Whether the text has units and its buffers hold far more than it.
+    fn is_outgrown(&self) -> bool
+        ensures { result ≡ is_outgrown self.now.text }
     {
         let len = self.text.len();
-        if len > MOST_COMPACTED || self.text.chunks().len() <= MOST_TIMES_HELD * len + MOST_HELD {
-            return Ok(None);
-        }
-        if self.piece_count()? == 0 {
-            return Ok(None);
-        }
-        let mut units = Vec::new(self.alloc);
-        self.text.value(Span { start: 0, end: len }, &mut units)?;
-        let text = TextBuffer::of_vec(self.alloc, units, self.text.kind())?;
-        Ok(Some(text))
-    }
-
-    // Returns in how many pieces the text lies. It goes over all of them.
-    fn piece_count(&self) -> Result<usize, AllocError>
-        ensures { IfOk result (λ count. count ≡ length self.now.text.spans) }
-    {
-        let mut spans = Vec::new(self.alloc);
-        self.text.spans(&mut spans)?;
-        Ok(spans.len())
+        len <= MOST_COMPACTED
+            && MOST_TIMES_HELD * len + MOST_HELD < self.text.chunks().len()
+            && 0 < len
     }
 }

@@ -1,4 +1,4 @@
--- A reader that enters a line whose content was scanned, goes on to the next line, or stands at the end.
+-- A reader that enters a line whose content was scanned, moves to the next line, or reaches the end.
 use Rattle.std.proofs.Common.{◌≡◌, ℕ, zero, suc, ◌+◌, ◌-◌, ◌<◌, ◌≤◌, true, List, [], ◌∷◌, length, get_or, drop, refl, ap, sym, ◌∙◌, subst, arith, inr, drop-cons}
 use Rattle.std.specs.Prelude.{slice_index}
 use Rattle.std.proofs.lemmas.List.{length-drop, nil_from_length}
@@ -35,7 +35,7 @@ some_row : (rows : List Row) → 0 < length rows → HasRow rows
 some_row [] h = absurd (omega arith)
 some_row (r ∷ rows) h = tt
 
--- where rows follow, no more than the brackets and the break weigh
+-- if rows follow, the weight is the brackets' end and one for the break
 some_break : (c n : ℕ) (ts : List Token) (rows : List Row) → 0 < length rows → weight_before c ts n rows ≡ brackets_end c ts + 1
 some_break c n ts [] h = absurd (omega arith)
 some_break c n ts (r ∷ rows) h = refl

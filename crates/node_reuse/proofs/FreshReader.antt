@@ -34,7 +34,7 @@ use Rattle.node_reuse.proofs.Unasked.{none_unasked}
 
 -- ---- what a source gives, with what it has yet to ask for
 
--- so much is left at the two places: these weights and what is left at the second are within what is left at the first
+-- the weights left at the two places: `weights` and the weights left at the second are within those left at the first
 covered_left : (s : Sight) (p q : Length) (l m : ℕ) (weights : List ℕ)
     → left_at s.old.tree s.old.marks (sight_weights s) p ≡ l → left_at s.old.tree s.old.marks (sight_weights s) q ≡ m
     → AreCovered (glue_weights weights (m ∷ drop (suc q.lines) (sight_weights s))) (l ∷ drop (suc p.lines) (sight_weights s))
@@ -70,7 +70,7 @@ bracket_seen s asked p q from to k w l m opening e f g = record {
   rest = g.rest;
 }
 
--- the same lines are left
+-- the lines left to ask for are the same
 pub asks_same : (s : Sight) (asked : Asked) (p q : Length) (from to : Line) → unasked s.old.marks q to.scanned ≡ unasked s.old.marks p from.scanned
     → to.asked ≡ from.asked → AsksOn (asking_at s asked p from) (asking_at s asked q to)
 asks_same s asked p q from to left count = record {
@@ -80,7 +80,7 @@ asks_same s asked p q from to left count = record {
   borrows = refl;
 }
 
--- a reader in a line stands within the text
+-- a reader's line is a line of the text
 pub lines_within : (s : Sight) (p : Length) (line : Line) → StandsAt s p line → p.lines < length s.contents
 lines_within s p line h = omega (arith, reached_within (sight_rows s) p (rows_from p (sight_rows s)) h.reached, length-hidden_rows s.by s.contents)
 
@@ -105,7 +105,7 @@ unasked_scanned s p b e = ap (unasked s.old.marks p) e
 pub unasked_unscanned : (s : Sight) (p : Length) (b : Bool) → b ≡ false → unasked s.old.marks p b ≡ new_lines_at p.lines s.old.marks
 unasked_unscanned s p b e = ap (unasked s.old.marks p) e
 
--- the reader comes to another column of the line
+-- the reader moves to another column of the line
 module _ (s : Sight) (p : Length) (line : Line) (h : StandsAt s p line) (e : line.scanned ≡ true)
     (c : ℕ) (to : Line) (scanned : to.scanned ≡ true) (counted : to.asked ≡ line.asked)
     (f : IsFresh (sight_rows s) (sight_weights s) (length_of p.lines c) (tokens_left to) to.columns) where
@@ -153,7 +153,7 @@ fresh_gap_if (Ok n) s p q line d kinds level room h scanned g k more given lines
     subst (λ (x : Length). ReadsOn s p line x line kinds level n) (sym (same_length q (length_of p.lines d) lines column))
     (subst (ReadsOn s p line (length_of p.lines d) line kinds level) (sym given) (fresh_gap s p line d kinds level room h scanned g k more))
 
--- a bracket is left in the line, or it is the last one
+-- a bracket is left in the line, or the line is the last one
 pub before_bracket : (t : Token) (ts us : List Token) (rest : List Row) → us ≡ t ∷ ts → IsBeforeMore us rest
 before_bracket t ts us rest e = subst (λ (x : List Token). IsBeforeMore x rest) (sym e) tt
 
@@ -201,7 +201,8 @@ start_stands s p q line to h start r scanned counted left = record {
   asked = ap (λ (n : ℕ). n + length (unasked s.old.marks q to.scanned)) counted ∙ ap (λ (x : List ℕ). line.asked + length x) left ∙ h.asked;
 }
 
--- what gives a node that ends at the start of a line, where that line may weigh more than what is left of it
+-- a node that ends at the start of a line may be given with the weight left of that line, if it may be given with the
+-- line's bound
 pub node_seen_at_start : (s : Sight) (asked : Asked) (p q : Length) (from to : Line) (kinds level l : ℕ) (t : Tree) (line : Line) → StandsAt s p line
     → q.columns ≡ 0 → left_at s.old.tree s.old.marks (sight_weights s) p ≡ l
     → GivesNode (ahead_at (sight_rows s) (sight_weights s) p l) (ahead_at (sight_rows s) (sight_weights s) q (fresh_left (sight_weights s) q)) kinds level t

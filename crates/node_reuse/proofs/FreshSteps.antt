@@ -24,7 +24,7 @@ use Rattle.node_reuse.specs.Ahead.{ahead_at, fresh_left, weight_before, IsFresh}
 
 -- ---- steps within the line
 
--- where the reader stands behind a part of the line
+-- the reader after a part of the line
 moved_on : (now : List Row) (weights : List ℕ) (p : Length) (d n : ℕ) (ts us : List Token) (front : List Token) → p.columns ≤ d
     → IsFresh now weights p ts n → IsBounded (row front (d - p.columns) ∷ []) → AreInLine d n us
     → moved_back p.columns ts ≡ front ++ shifted (d - p.columns) (moved_back d us)
@@ -50,11 +50,11 @@ pub rows_at : (now : List Row) (weights : List ℕ) (p : Length) (ts : List Toke
     → rows_from p now ≡ rows_before p.columns ts n (drop (suc p.lines) now)
 rows_at now weights p ts n f = Reached-rows now p (rows_before p.columns ts n (drop (suc p.lines) now)) f.reached
 
--- what is read of the line is taken off what is left of it
+-- the columns read are deducted from those left
 less_left : (w c d : ℕ) → c ≤ d → d ≤ w → (d - c) + (w - d) ≤ w - c
 less_left w c d h k = omega arith
 
--- no column that the reader comes to lies behind what the line weighs
+-- no column that the reader reaches exceeds the weight of the line
 column_within : (now : List Row) (weights : List ℕ) (p : Length) (ts : List Token) (n : ℕ) → IsFresh now weights p ts n → p.columns ≤ slice_index weights p.lines
 column_within now weights p ts n f =
     let w = f.weight in
@@ -69,7 +69,7 @@ column_within now weights p ts n f =
     before_within c n ts [] h = line_end c n ts h
     before_within c n ts (r ∷ rest) h = omega (arith, end_within c n ts h)
 
--- columns are read on their own before a bracket, or in the last line
+-- the columns of a gap are read separately only before a bracket or in the last line
 abbrev pub IsBeforeMore : List Token → List Row → Type 0
 IsBeforeMore [] [] = ⊤
 IsBeforeMore [] (r ∷ rest) = ⊥
@@ -155,7 +155,7 @@ bracket_given now weights p n t ts f h =
 
 -- ---- the line's break
 
--- a reader at the break comes to the start of the next line
+-- a reader at the break moves to the start of the next line
 pub break_next : (now : List Row) (weights : List ℕ) (p : Length) (n : ℕ) → IsFresh now weights p [] n → suc p.lines < length now
     → Reached now (length_of (suc p.lines) 0) (drop (suc p.lines) now)
 break_next now weights p n f h = at_rest (drop (suc p.lines) now) f.reached (omega (arith, length-drop (suc p.lines) now))

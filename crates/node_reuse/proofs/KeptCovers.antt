@@ -1,4 +1,4 @@
--- What leaves weigh over several lines is covered by what those lines may weigh.
+-- The weight of leaves over several lines is covered by the bounds for those lines.
 use Rattle.std.proofs.Common.{◌≡◌, ℕ, zero, suc, ◌+◌, ◌<◌, ◌≤◌, List, [], ◌∷◌, length, get_or, drop, refl, ap, sym, ◌∙◌, subst, arith, drop-cons}
 use Rattle.std.specs.Prelude.{slice_index}
 use Rattle.std.proofs.lemmas.List.{length-drop}
@@ -21,8 +21,8 @@ glue-under : (w : ℕ) (m c : List ℕ) → HasWeight m → glue_weights (w ∷ 
 glue-under w [] c h = elim h [ ]
 glue-under w (x ∷ m) c h = refl
 
--- each of the lines after the one of place q, up to so many, weighs no more than the line that stands for it: the line of
--- place q stands for line j
+-- each of the k lines after the line of place q weighs at most the bound for the corresponding line; the line of
+-- place q corresponds to line j
 abbrev pub AreLight : List ℕ → List Leaf → Length → ℕ → ℕ → Type 0
 AreLight weights ls q j k =
     (line i : ℕ) → q.lines < line → line ≤ q.lines + k → i + q.lines ≡ j + line → weight_from (length_of line 0) ls ≤ slice_index weights i
@@ -30,7 +30,7 @@ AreLight weights ls q j k =
 light_next : (weights : List ℕ) (ls : List Leaf) (q : Length) (j k : ℕ) → AreLight weights ls q j (suc k) → AreLight weights ls (next_line q) (suc j) k
 light_next weights ls q j k h line i a b e = h line i (omega arith) (omega arith) (omega arith)
 
--- the first line after is covered
+-- the next line is covered
 step_over : (weights : List ℕ) (ls : List Leaf) (q : Length) (j k : ℕ) (a : List ℕ) → suc j < length weights → AreLight weights ls q j (suc k)
     → AreCovered a (weight_from (next_line q) ls ∷ drop (suc (suc j)) weights) → AreCovered a (drop (suc j) weights)
 step_over weights ls q j k a within h c =

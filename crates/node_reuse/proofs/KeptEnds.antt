@@ -1,4 +1,4 @@
--- A reader in a kept line takes an old bracket, or stands at the end.
+-- A reader in a kept line takes an old bracket, or is at the end.
 use Rattle.std.proofs.Common.{◌≡◌, ℕ, suc, ◌+◌, ◌<◌, ◌≤◌, inl, inr, Bool, true, false, Option, Some, None, List, [], ◌∷◌, ◌++◌, length, drop, refl, ap, sym, ◌∙◌, subst, arith}
 use Rattle.std.specs.Prelude.{slice_index_or}
 use Rattle.std.proofs.lemmas.List.{length-drop, nil_from_length, get_or-drop}
@@ -132,7 +132,7 @@ bracket_given old marks now weights p line b f h e =
 
 -- ---- the end
 
--- where no old node may stand and no old bracket stands, the text of now ends
+-- if no old node is reusable and no old bracket is there, the current text ends
 pub kept_over : (old : Tree) (marks : List Mark) (now : List Row) (weights : List ℕ) (p : Length) (line kinds level left : ℕ)
     → IsFollowing old marks now weights p line → level ≤ MOST_OPEN → NoneReusable (old_text (Some old) marks) p kinds level
     → NoOldBracket (old_text (Some old) marks) p → IsOver (ahead_at now weights p left)
@@ -163,7 +163,7 @@ kept_over old marks now weights p line kinds level left f room none no_bracket =
 abbrev pub with_left : Ahead → ℕ → Ahead
 with_left a left = record a { line = left }
 
--- what gives a node gives it too where less of the line is left behind it
+-- a node may still be given if less of the line is left after it
 pub lighter : (old new : Ahead) (kinds level : ℕ) (t : Tree) (left : ℕ) → left ≤ new.line → GivesNode old new kinds level t
     → GivesNode old (with_left new left) kinds level t
 lighter old new kinds level t left h g = record {

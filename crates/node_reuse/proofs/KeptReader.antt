@@ -31,7 +31,7 @@ use Rattle.node_reuse.proofs.FreshReader.{same_count, node_seen, bracket_seen, n
 
 -- ---- the old tree
 
--- where the line is kept there is an old tree, and the reader follows it
+-- in a kept line there is an old tree, and the reader follows it
 pub record FollowsOld (s : Sight) (p : Length) : Type 0 where
   pub tree : Tree
   pub line : ℕ
@@ -54,7 +54,7 @@ module _ (s : Sight) (p : Length) (line : Line) (h : StandsAt s p line) (kept : 
       at_tree s.old.tree refl
       (subst (λ (m : Mark). IsInLine m s.old.tree s.old.marks (sight_rows s) (sight_weights s) p line.scanned (tokens_left line) line.columns) kept.1 h.in_line)
 
--- what an old tree has left of a line that it follows
+-- the weight that an old tree has left of the line being followed
 left_kept : (s : Sight) (p : Length) (t : Tree) (line : ℕ) → s.old ≡ old_text (Some t) s.old.marks → mark_of s p ≡ Kept (line + 1)
     → left_at s.old.tree s.old.marks (sight_weights s) p ≡ weight_left t (length_of line p.columns)
 left_kept s p t line whole kept =
@@ -62,7 +62,7 @@ left_kept s p t line whole kept =
     ∙ ap (λ (o : OldText). left_by (Kept (line + 1)) o.tree (sight_weights s) p) whole
     ∙ ap (λ (n : ℕ). weight_left t (length_of n p.columns)) (omega arith)
 
--- the reader comes to a place of the run of kept lines, or behind it
+-- the reader moves within the run of kept lines, or to the line after it
 pub run_left : (s : Sight) (p q : Length) (b : Bool) (k : ℕ) → b ≡ false → q.lines ≡ p.lines + k → k ≤ kept_run (drop p.lines s.old.marks)
     → unasked s.old.marks q b ≡ unasked s.old.marks p b
 run_left s p q b k scanned lines within =

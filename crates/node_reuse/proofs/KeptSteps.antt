@@ -48,7 +48,7 @@ rows_count [] h = elim h [ ]
 rows_count (r ∷ []) h = refl
 rows_count (r ∷ x ∷ rows) h = ap suc (rows_count (x ∷ rows) tt)
 
--- where nothing is ahead the reader is in the last line
+-- if nothing is ahead, the reader is in the last line
 pub reached_end : (now : List Row) (p : Length) → Reached now p (empty_row ∷ []) → length now ≡ suc p.lines
 reached_end now p r =
     let lines : (rows_length r.done).lines ≡ p.lines = ap (λ (l : Length). l.lines) r.place in
@@ -57,7 +57,7 @@ reached_end now p r =
 
 -- ---- what kept lines may weigh
 
--- as many lines as the run has are light
+-- all lines of the run are within the bounds
 light_run : (old : Tree) (marks : List Mark) (weights : List ℕ) (p : Length) (line k : ℕ) → IsLightBy old marks weights → IsKeptAs marks p line
     → k < kept_run (drop p.lines marks) → AreLight weights (leaves no_length old) (length_of line p.columns) p.lines k
 light_run old marks weights p line k light kept h l i a b e =
@@ -68,7 +68,7 @@ light_run old marks weights p line k light kept h l i a b e =
 
 -- ---- a node
 
--- behind rows of length l, which were taken from the old text
+-- after rows of length l, which were taken from the old text
 pub record TookAt (old : Tree) (marks : List Mark) (now : List Row) (p : Length) (line : ℕ) (rows : List Row) (l : Length) : Type 0 where
   pub spells : rows_from p now ≡ glue rows (rows_from (length_plus p l) now)
   pub has_rest : HasRow (rows_from (length_plus p l) now)
@@ -99,7 +99,7 @@ node_took old marks now weights p line kinds level n f h =
     took_at old marks now p line (tree_rows n) (tree_length n) (rows_length-tree n)
     (node_taken old marks now p (rows_from p now) line kinds level n f.tree f.reached f.follows h.0 h.1)
 
--- behind a node the reader goes on in the run
+-- after a node that ends in the run the reader continues in it
 pub node_goes_on : (old : Tree) (marks : List Mark) (now : List Row) (weights : List ℕ) (p : Length) (line kinds level : ℕ) (n : Tree)
     → IsFollowing old marks now weights p line → OldNode old marks p line kinds level n → (tree_length n).lines < kept_run (drop p.lines marks)
     → IsFollowing old marks now weights (length_plus p (tree_length n)) (line + (tree_length n).lines)
@@ -114,7 +114,7 @@ zero_before a d x =
 old_end : (line : ℕ) (p l : Length) → length_plus (length_of line p.columns) l ≡ length_of (line + l.lines) (length_plus p l).columns
 old_end line p l = refl
 
--- what is left behind a node that the run goes on behind
+-- the weight left after a node that ends in the run
 pub node_given : (old : Tree) (marks : List Mark) (now : List Row) (weights : List ℕ) (p : Length) (line kinds level : ℕ) (n : Tree)
     → IsFollowing old marks now weights p line → OldNode old marks p line kinds level n → (tree_length n).lines < kept_run (drop p.lines marks)
     → GivesNode (ahead_at now weights p (weight_left old (length_of line p.columns)))
@@ -145,11 +145,11 @@ run_within : (lines columns run : ℕ) → lines_touched lines columns ≤ run �
 run_within lines zero run h e = h
 run_within lines (suc columns) run h e = absurd (omega arith)
 
--- a text that ends just after a break ends at the start of a line
+-- after a text that ends with a break the column is 0
 pub columns_zero : (p l : Length) → 0 < l.lines → l.columns ≡ 0 → (length_plus p l).columns ≡ 0
 columns_zero p l h e = rw (lt-ltb 0 l.lines h) e
 
--- what is left behind a node that ends at the start of a line, which is not entered
+-- the weight left after a node that ends at the start of a line, which is not entered
 pub node_turned : (old : Tree) (marks : List Mark) (now : List Row) (weights : List ℕ) (p : Length) (line kinds level k : ℕ) (n : Tree)
     → IsFollowing old marks now weights p line → OldNode old marks p line kinds level n → (tree_length n).lines ≡ suc k → (tree_length n).columns ≡ 0
     → GivesNode (ahead_at now weights p (weight_left old (length_of line p.columns)))

@@ -1,5 +1,5 @@
--- What a tree weighs by its rows: a tree of an old text is no heavier in a kept line than the rows of now tell, and rows
--- tell no more than a text's lines may weigh.
+-- The weight of a tree according to its rows: in a kept line the tree of an old text weighs at most what the current
+-- rows show, and rows show at most the bounds for the lines of a text.
 use Rattle.std.proofs.Common.{◌≡◌, ℕ, zero, suc, ◌+◌, ◌-◌, ◌<◌, ◌≤◌, true, List, [], ◌∷◌, length, drop, refl, ap, sym, ◌∙◌, subst, arith}
 use Rattle.std.specs.Prelude.{slice_index, slice_index_or}
 use Rattle.text_lengths.specs.declared.Length.{Length}
@@ -32,7 +32,7 @@ length-row_weights [] = refl
 length-row_weights (r ∷ []) = refl
 length-row_weights (r ∷ s ∷ rows) = ap suc (length-row_weights (s ∷ rows))
 
--- the weight of a row is the first one's of the rows from there on
+-- the weight of row i is that of the first of the rows from i on
 row_weight-at : (rows : List Row) (i : ℕ) → slice_index (row_weights rows) i ≡ slice_index (row_weights (drop i rows)) 0
 row_weight-at rows zero = refl
 row_weight-at [] (suc i) = refl
@@ -68,7 +68,7 @@ length-weights_from : (q : Length) (lines : ℕ) (ls : List Leaf) → length (we
 length-weights_from q zero ls = refl
 length-weights_from q (suc lines) ls = ap suc (length-weights_from (next_line q) lines ls)
 
--- a line of a tree that has tight breaks weighs no more than its row tells
+-- a line of a tree with tight breaks weighs at most what its row shows
 tight_line : (t : Tree) (line : ℕ) → IsTree t → IsTight t → line < length (tree_rows t) → line_weight t line ≤ slice_index (row_weights (tree_rows t)) line
 tight_line t line h tight inside =
     let counted = length-tree_weights t in

@@ -52,7 +52,7 @@ left (Kept i) (Some old) marks now weights p e s c =
     ap (λ (n : ℕ). weight_left old (length_of (i - 1) n)) c in
     omega arith
 
--- no more is left of it than it may weigh
+-- the weight left of it is at most its bound
 pub start_is_light : (old : Option Tree) (marks : List Mark) (now : List Row) (weights : List ℕ) (p : Length) → StaysIfThere old marks now weights
     → p.columns ≡ 0 → left_at old marks weights p ≤ fresh_left weights p
 start_is_light old marks now weights p = left (mark_at (p.lines + 1) marks) old marks now weights p refl

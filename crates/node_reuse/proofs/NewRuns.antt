@@ -1,4 +1,4 @@
--- Runs of new lines, of which each is asked for once.
+-- Runs of new lines: each needs one query.
 use Rattle.std.proofs.Common.{◌≡◌, ℕ, zero, suc, ◌+◌, ◌-◌, ◌<◌, ◌≤◌, inl, inr, List, [], ◌∷◌, length, get_or, drop, refl, ap, sym, ◌∙◌, arith, drop-cons}
 use Rattle.std.proofs.lemmas.Bool.{cases_lt}
 use Rattle.std.proofs.lemmas.List.{drop-drop, length-drop}
@@ -50,7 +50,7 @@ rest_of (suc k) [] h = absurd (omega arith)
 rest_of (suc k) (New ∷ marks) h = omega (arith, rest_of k marks (omega arith))
 rest_of (suc k) (Kept i ∷ marks) h = absurd (omega arith)
 
--- what is known at a line is known at a later one
+-- lines known to be new at a line are still known at a later one
 pub still_told : (marks : List Mark) (j k told : ℕ) → j ≤ k → told ≤ j + new_run (drop j marks) → told ≤ k + new_run (drop k marks)
 still_told marks j k told on h = elim (cases_lt told (suc k)) [
   | inl behind ↦ omega arith
@@ -74,7 +74,7 @@ runs_behind zero marks = omega arith
 runs_behind (suc k) [] = omega arith
 runs_behind (suc k) (mark ∷ marks) = omega (arith, runs_behind k marks, runs_next mark marks)
 
--- there are no more from a later line on, or where more lines are known
+-- there are no more runs ahead from a later line, or with more lines known
 pub runs_forward : (marks : List Mark) (j k told more : ℕ) → j ≤ k → told ≤ more → runs_ahead marks k more ≤ runs_ahead marks j told
 runs_forward marks j k told more on known =
     let from = j + (told - j) in
@@ -91,7 +91,7 @@ run_passed (New ∷ []) some = refl
 run_passed (New ∷ New ∷ marks) some = run_passed (New ∷ marks) (omega arith)
 run_passed (New ∷ Kept i ∷ marks) some = omega arith
 
--- where the run from a line on becomes known, one run less is ahead
+-- when the run from a line on becomes known, one run fewer is ahead
 pub run_asked : (marks : List Mark) (j told : ℕ) → told ≤ j → 0 < new_run (drop j marks)
     → runs_ahead marks j (j + new_run (drop j marks)) + 1 ≤ runs_ahead marks j told
 run_asked marks j told known some =

@@ -1,4 +1,4 @@
--- What is found in an old tree at the old place is what may be taken over at the place of now.
+-- The nodes and brackets found in an old tree at the old place are those that may be reused at the current place.
 use Rattle.std.proofs.Common.{◌≡◌, ℕ, zero, suc, ◌+◌, ◌-◌, ◌≤◌, Bool, true, false, Option, Some, None, List, [], ◌∷◌, drop, refl, ap, sym, ◌∙◌, subst, arith}
 use Rattle.std.specs.Prelude.{slice_index_or, IfSome, IfNone}
 use Rattle.text_lengths.specs.declared.Length.{Length}
@@ -34,7 +34,7 @@ rises-at least (suc k) i (New ∷ marks) r e = rises-at least k i marks r e
 rises-at least (suc k) i (Kept j ∷ marks) r e =
     let low : least ≤ j = r.0 in let more : suc j ≤ i = rises-at (suc j) k i marks r.2 e in omega arith
 
--- a kept line has a number from 1 on
+-- the number of a kept line is at least 1
 pub kept_from_one : (marks : List Mark) (n number : ℕ) → Rises marks → Kept number ≡ mark_at n marks → 1 ≤ number
 kept_from_one marks n number r e = rises-at 1 (n - 1) number marks r e
 

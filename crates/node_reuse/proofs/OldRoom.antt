@@ -1,4 +1,4 @@
--- What is found in an old tree ends at a place that 64 bits tell.
+-- A node or bracket found in an old tree ends at a place that fits 64 bits.
 use Rattle.std.proofs.Common.{◌≡◌, ℕ, zero, suc, ◌+◌, ◌<◌, ◌≤◌, ◌^◌, inl, inr, false, true, cond, eqb, Option, Some, None, List, [], ◌∷◌, ◌++◌, length, ap, sym, subst, arith}
 use Rattle.std.specs.Prelude.{IfSome}
 use Rattle.std.proofs.lemmas.Grind.{common_steps}
@@ -26,7 +26,7 @@ here_within p t q n h =
     let node : weight n ≡ weight t = ap weight h.node in
     omega arith
 
--- no node of a tree ends behind it
+-- no node ends after its tree
 node_within : (p : Length) (t : Tree) (q : Length) (n : Tree) → HasNode p t q n → units_of q + weight n ≤ units_of p + weight t
 node_within p (text l) q n h = here_within p (text l) q n h
 node_within p (pair k o i c) q n (inl h) = here_within p (pair k o i c) q n h
@@ -67,7 +67,7 @@ closing_within : (p : Length) (k : ℕ) (c : Option ℕ) (b : Bracket) → IsAmo
 closing_within p k None b h = elim h [ ]
 closing_within p k (Some w) b h = only_within p b (bracket p w k false) (units_of p + w) (omega arith) h
 
--- no bracket of a tree ends behind it
+-- no bracket ends after its tree
 bracket_within : (p : Length) (t : Tree) (b : Bracket) → HasBracket p t b → units_of b.place + b.len ≤ units_of p + weight t
 bracket_within p (text l) b h = elim h [ ]
 bracket_within p (pair k o i c) b (inl e) =

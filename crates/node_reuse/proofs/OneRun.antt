@@ -1,4 +1,4 @@
--- What the way through the kept lines costs, where the new lines are one run of adjacent lines.
+-- The cost of the way through the kept lines if the new lines are one run of adjacent lines.
 use Rattle.std.proofs.Common.{◌≡◌, ℕ, suc, ◌+◌, ◌-◌, ◌<◌, ◌≤◌, List, [], ◌∷◌, length, drop, refl, ap, sym, ◌∙◌, subst, arith}
 use Rattle.std.specs.Prelude.{slice_index_or}
 use Rattle.std.proofs.lemmas.Bool.{eq-eqb, ne_eqb}
@@ -32,7 +32,7 @@ not_earlier n [] m lines e = absurd (none_behind m lines (sym e))
 not_earlier n (New ∷ marks) m lines e = let first : n ≡ m = ap (λ (ls : List ℕ). slice_index_or ls 0 0) e in omega arith
 not_earlier n (Kept i ∷ marks) m lines e = omega (arith, not_earlier (suc n) marks m lines e)
 
--- behind a new line and a kept one no line of the run is left
+-- after a new line and a kept one, no line of the run is left
 pub none_new : (n : ℕ) (marks : List Mark) → IsOneRun (n ∷ new_from (suc (suc n)) marks) → new_from (suc (suc n)) marks ≡ []
 none_new n marks one = of (new_from (suc (suc n)) marks) refl one
   where
@@ -40,7 +40,7 @@ none_new n marks one = of (new_from (suc (suc n)) marks) refl one
     of [] e one = refl
     of (m ∷ lines) e one = absurd (omega (arith, not_earlier (suc (suc n)) marks m lines e, one.0))
 
--- they are one run
+-- the lines are one run
 all_numbered : (n i : ℕ) (marks : List Mark) → GoesOn i marks → RisesFrom (suc i) marks → new_from n marks ≡ [] → numbered (suc i) marks ≡ length marks
 all_numbered n i [] on rises none = refl
 all_numbered n i (New ∷ marks) on rises none = absurd (none_behind n (new_from (suc n) marks) none)
@@ -70,7 +70,7 @@ rest_of marks rest j m e =
     let at : suc j ≡ j + 1 = omega arith in
     ap (λ (n : ℕ). drop n marks) at ∙ sym (drop-drop 1 j marks) ∙ ap (drop 1) e
 
--- where the last line of now is kept as an old one, that is the last one too
+-- if the last current line is kept from an old line, that is the last old line
 last_alike : (old now : List Row) (i j : ℕ) → suc j ≡ length now → Alike 1 (drop i old) (drop j now) → suc i ≡ length old
 last_alike old now i j last alike = at (drop i old) (drop j now) (length-drop i old) (length-drop j now) alike
   where
@@ -91,7 +91,7 @@ module _ (c : Costs) (old : Tree) (marks : List Mark) (now : List Row) (agrees :
   rises_at : (j : ℕ) (rest : List Mark) → drop j marks ≡ rest → RisesFrom 1 rest
   rises_at j rest e = subst (RisesFrom 1) e (RisesFrom-drop 1 j marks agrees.rises)
 
-  -- a run up to the last line ends where the old tree does, or behind it
+  -- a run up to the last line ends at or after the end of the old tree
   to_the_end : (j n i : ℕ) (rest : List Mark) → drop j marks ≡ Kept i ∷ rest → new_from n rest ≡ [] → run_price c old (i - 1) 0 (Kept i ∷ rest) + runs_price c old (suc i) rest ≤ most_right
   to_the_end j n i rest e none =
       let rises : RisesFrom 1 (Kept i ∷ rest) = rises_at j (Kept i ∷ rest) e in
@@ -116,7 +116,7 @@ module _ (c : Costs) (old : Tree) (marks : List Mark) (now : List Row) (agrees :
             (up_to_later (tree_length old) (i - 1 + kept_run (Kept i ∷ rest)) behind),
       )
 
-  -- behind a new line only one run of kept lines is left
+  -- after a new line at most one run of kept lines is left
   after_new : (rest : List Mark) (j n : ℕ) → drop j marks ≡ rest → IsOneRun (n ∷ new_from (suc n) rest) → runs_price c old 0 rest ≤ most_right
   after_new [] j n e one = omega arith
   after_new (New ∷ rest) j n e one = after_new rest (suc j) (suc n) (rest_of marks rest j New e) one.1
@@ -132,7 +132,7 @@ module _ (c : Costs) (old : Tree) (marks : List Mark) (now : List Row) (agrees :
   after_kept (Kept k ∷ rest) j n i e on one =
       omega (arith, goes_on_free c old i k rest on, after_kept rest (suc j) (suc n) k (rest_of marks rest j (Kept k) e) (rises_at j (Kept k ∷ rest) e).1 one)
 
-  -- from the start on: one way to the new lines, and one from them to the end
+  -- from the start: one way to the new lines, and one from them to the end
   pub one_run_price : IsOneRun (new_lines marks) → way_price c old marks no_length ≤ most_left + most_right
   one_run_price one = from_start marks refl one agrees.begins
     where

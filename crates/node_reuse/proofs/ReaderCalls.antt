@@ -1,4 +1,4 @@
--- What the calls of a reader come to.
+-- The results of a reader's calls.
 use Rattle.std.proofs.Common.{◌≡◌, ℕ, suc, ◌+◌, ◌<◌, ◌≤◌, ◌≢◌, ◌⊎◌, inl, inr, Bool, true, false, eqb, Result, Ok, Err, List, [], ◌∷◌, ◌++◌, length, drop, get_or, refl, ap, sym, ◌∙◌, subst, arith, append_assoc}
 use Rattle.std.specs.Prelude.{IfOk, OnOk, OnErr}
 use Rattle.std.proofs.lemmas.List.{append-nil}
@@ -48,7 +48,7 @@ reads_asks (Err e) s asked p q from to kinds level h place line =
     asks_same s asked p q from to (ap (λ (x : Length). unasked s.old.marks x to.scanned) place ∙ ap (λ (l : Line). unasked s.old.marks p l.scanned) line)
     (ap (λ (l : Line). l.asked) line)
 
--- what comes does not rest on which lines were asked for before
+-- the next item does not depend on which lines were asked for before
 pub comes_from : (s : Sight) (asked before : Asked) (p : Length) (from start : Line) (new : Ahead) (kinds level : ℕ) (n : Next)
     → Comes (seen_at s asked p from) new kinds level n → Comes (seen_at s before p start) new kinds level n
 comes_from s asked before p from start new kinds level End h = record { over = h.over; rows = h.rows; weights = h.weights }
@@ -113,7 +113,7 @@ entered_if (Ok x) s p n line to e h unscanned new tokens columns scanned counted
     (counted ∙ ap (λ (b : Bool). line.asked + length (asked_if b n)) scanned)
 entered_if (Err x) s p n line to e h unscanned new tokens columns scanned counted = tt
 
--- the line was asked for, or it is still to be asked for
+-- the line was asked for, or is still to be asked for
 pub entered_asks : (s : Sight) (p : Length) (n : ℕ) (line to : Line) (old new borrows : List ℕ) → p.lines + 1 ≡ n → StandsAt s p line
     → line.scanned ≡ false → mark_of s p ≡ New → new ≡ old ++ asked_if to.scanned n → to.asked ≡ line.asked + length (asked_if to.scanned n)
     → AsksOn (asking_at s (asked_so old borrows) p line) (asking_at s (asked_so new borrows) p to)
@@ -147,12 +147,12 @@ entered_asks s p n line to old new borrows number h unscanned new_mark e f = rec
         let all : length (unasked s.old.marks p line.scanned) ≡ suc (length (new_lines_at (suc p.lines) s.old.marks)) = ap length (left ∙ first) in
         omega arith
 
--- what is known of new lines at a place
+-- the knowledge of new lines at a place
 pub record IsKnown (s : Sight) (p : Length) (line : Line) (new_to : ℕ) : Type 0 where
   pub told : new_to ≤ p.lines + new_run (drop p.lines s.old.marks)
   pub scanned : line.scanned ≡ true → p.lines < new_to
 
--- the lines that it reads are settled as before
+-- the lines that the reader reads remain settled
 pub still_settled : {A E : Type 0} (r : Result A E) (s : Sight) (settled : SettledState) (p q : Length) (from to : Line) (new_to told : ℕ)
     → Stands s settled p from new_to → IsKnown s q to told → OnOk r (StandsAt s q to) → OnOk r (Stands s settled q to told)
 still_settled (Ok x) s settled p q from to new_to told h known at =
@@ -161,7 +161,7 @@ still_settled (Err e) s settled p q from to new_to told h known at = tt
 
 -- ---- a call in a new line, whose lines have the same contents afterwards
 
--- what came next, from this line on, which was entered, to that one
+-- the next item of a new line: the reader moves from place p and line state `start` to place q and line state `to`
 pub record NextInNew {E : Type 0} (r : Result Next E) (before after : Sight) (settled : SettledState) (asked told : Asked) (p q : Length) (start to : Line)
     (new_to kinds level : ℕ) : Type 0 where
   pub comes : IfOk r (Comes (seen_at before asked p start) (seen_at after told q to) kinds level)
@@ -188,7 +188,7 @@ new_call r by before after old settled same asked told borrows p q start from to
           (reads_asks r s now p q from to kinds level reads place line);
     })
 
--- a line that was not entered, whatever was asked for
+-- entering the line failed, whatever lines were asked for
 pub failed_asks : (by : Scanner) (before after : List (List ℕ)) (old : OldText) → after ≡ before → (asked told : Asked) (p : Length) (from to : Line)
     → AsksOn (asking_at (sight by before old) asked p from) (asking_at (sight by before old) told p to)
     → AsksOn (asking_at (sight by before old) asked p from) (asking_at (sight by after old) told p to)
@@ -207,12 +207,12 @@ last_line s p count same within = either (eqb_tells (p.lines + 1) count)
 
 -- ---- a line that was entered
 
--- a line that is not known to be new was not scanned
+-- a line not known to be new was not scanned
 pub unscanned : (scanned : Bool) (line new_to : ℕ) → (scanned ≡ true → line < new_to) → new_to ≤ line → scanned ≡ false
 unscanned true line new_to h untold = absurd (omega (arith, h refl))
 unscanned false line new_to h untold = refl
 
--- a reader that stands within a line which it did not scan stands in a kept one
+-- a reader inside a line that it did not scan is in a kept line
 pub entered_kept : (s : Sight) (p : Length) (line : Line) → StandsAt s p line → line.scanned ≡ false → 0 < p.columns → IsKept s p
 entered_kept s p line h unscanned within =
     by (mark_of s p) refl
@@ -224,7 +224,7 @@ entered_kept s p line h unscanned within =
 
 -- ---- numbers that fit
 
--- the number of the reader's line, and of the lines that it asked for
+-- the reader's line, and the number of lines it asked for, are within the text
 pub record HasNumbers (s : Sight) (p : Length) (line : Line) : Type 0 where
   pub within : p.lines < length s.old.marks
   pub asked : line.asked ≤ length s.old.marks

@@ -1,4 +1,4 @@
--- What a reader pays at each call.
+-- The cost of a reader's calls.
 use Rattle.std.proofs.Common.{◌≡◌, ℕ, zero, suc, ◌+◌, ◌-◌, ◌<◌, ◌≤◌, Bool, true, false, Option, Some, None, List, [], ◌∷◌, length, drop, drop-cons, Result, Ok, Err, refl, ap, sym, ◌∙◌, subst, arith}
 use Rattle.std.specs.Prelude.{IfOk, OnOk, slice_index_or}
 use Rattle.text_lengths.specs.declared.Length.{Length}
@@ -65,7 +65,7 @@ module _ (s : Sight) (p : Length) (line : Line) (steps kinds level : ℕ) (h : S
   t : Tree
   t = followed.tree
 
-  -- the tree is there
+  -- there is an old tree
   there : s.old.tree ≡ Some t
   unfolding t
   there = ap (λ (o : OldText). o.tree) followed.whole
@@ -145,7 +145,7 @@ module _ (s : Sight) (p : Length) (line : Line) (steps kinds level : ℕ) (h : S
 
 -- ---- a new line
 
--- the way is the same from each place of it
+-- the price of the way is the same from each column of the line
 new_way : (c : Costs) (o : Option Tree) (marks : List Mark) (p : Length) (column : ℕ) → p.lines < length marks → mark_at (p.lines + 1) marks ≡ New
     → way_price_in c o marks (length_of p.lines column) ≡ way_price_in c o marks p
 new_way c None marks p column inside e = refl
@@ -196,7 +196,7 @@ fresh_bracket_pays s p line to t steps h scanned same split =
     at_most_one true = omega arith
     at_most_one false = omega arith
 
--- behind the break of a new line
+-- the price of the way after the break of a new line
 break_way : (c : Costs) (o : Option Tree) (marks : List Mark) (p : Length) → ((old : Tree) → o ≡ Some old → RisesFrom 1 marks) → p.lines < length marks
     → mark_at (p.lines + 1) marks ≡ New → way_price_in c o marks (length_of (suc p.lines) 0) ≡ way_price_in c o marks p
 break_way c None marks p rises inside e = refl
@@ -253,7 +253,7 @@ pub room_at : (s : Sight) (steps : ℕ) (p : Length) (line : Line) (new_to level
     → HasRoom (paying_at s steps p line) level
 room_at s steps p line new_to level h = record { known = h.known; room = h.room }
 
--- what comes was paid after so many steps, and the steps after those are off the runs that are ahead
+-- the next item was paid with `paid` steps in all, and the steps up to `after` are deducted from the runs ahead
 module _ (s : Sight) (p q : Length) (line to : Line) (steps paid after new_to told : ℕ)
     (less : after + runs_ahead s.old.marks q.lines told ≤ paid + runs_ahead s.old.marks p.lines new_to) where
   on_so : PaysOn (paying_at s steps p line) (paying_at s paid q to) → PaysOn (paying_so s steps p line new_to) (paying_so s after q to told)

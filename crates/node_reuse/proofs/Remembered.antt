@@ -8,7 +8,7 @@ use Rattle.mark_rules.specs.declared.Mark.TheVariants.{Kept, New}
 use Rattle.mark_rules.specs.Marks.{mark_at, kept_run, numbered}
 use Rattle.node_reuse.proofs.OldPlaces.{number_of}
 
--- so many lines behind one with this number, among lines that are kept one after another
+-- line `past` of a run of kept lines that begins with this number
 record IsLater (marks : List Mark) (number past : ℕ) : Type 0 where
   pub mark : slice_index_or marks past New ≡ Kept (number + past)
   pub run : kept_run (drop past marks) + past ≡ kept_run marks

@@ -1,4 +1,4 @@
--- How many steps a parse takes at most, where the lines that are asked for are one run.
+-- The bound on the steps of a parse whose lines asked for are one run.
 use Rattle.std.proofs.Common.{◌≡◌, ℕ, ◌+◌, ◌*◌, ◌≤◌, Bool, true, false, Option, Some, List, ap, sym, ◌∙◌, subst, arith}
 use Rattle.std.proofs.Math.Nat.{mul-le-mul_left}
 use Rattle.text_lengths.specs.declared.Length.{Length}
@@ -49,7 +49,7 @@ module _ (old : Tree) (marks : List Mark) (now : List Row) (agrees : AgreesWith 
             (λ from to h. none_opens from to no_length old (ends to h)) one,
       )
 
--- the end, the run of new lines, and twice a path with what stands beside it
+-- the end, the run of new lines, and twice a path with its neighbours
 within_bound : (n h : ℕ) → 4 + 2 * (2 + (4 * h + n * (4 * h + 6))) ≤ 16 * ((n + 1) * (h + 1))
 within_bound n h =
     let eight : n * (4 * h + 6) ≤ n * (8 * (h + 1)) = mul-le-mul_left n (omega arith) in
@@ -79,7 +79,7 @@ module _ (s : Sight) (line : Line) (steps : ℕ) (old : Tree) (there : s.old.tre
       ap (λ (o : Option Tree). way_price_in calls o s.old.marks no_length) there in
       omega (arith, spent, way, way_calls old s.old.marks (sight_rows s) agreed one, one_run s.old.marks one, within_bound (nesting old) (highest old))
 
--- a reader that was at the start, and spends no more than is due there if it has room, takes few steps
+-- a reader that begins at the start, and spends at most what is due there if it has room, takes few steps
 pub few_steps : (s : Sight) (line : Line) (from to : ℕ) → AgreesIfThere s.old.tree s.old.marks (sight_rows s) → line.scanned ≡ false
     → (HasRoom (paying_so s from no_length line 0) 0 → to ≤ from + (paying_so s from no_length line 0).due)
     → TakesFewSteps s.old s.by s.contents (new_lines s.old.marks) from to

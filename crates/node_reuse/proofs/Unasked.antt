@@ -1,4 +1,4 @@
--- Which lines a reader has yet to ask for, as it goes on.
+-- The lines that a reader still has to ask for, from call to call.
 use Rattle.std.proofs.Common.{◌≡◌, ℕ, zero, suc, ◌+◌, ◌<◌, ◌≤◌, Bool, true, false, cond, eqb, List, [], ◌∷◌, length, get_or, drop, ap, sym, ◌∙◌, arith, drop-cons}
 use Rattle.std.proofs.lemmas.List.{drop-drop, drop_all}
 use Rattle.mark_rules.specs.declared.Mark.{Mark}
@@ -27,7 +27,7 @@ skip_run n (suc k) (New ∷ marks) h = absurd (omega arith)
 skip_run n (suc k) (Kept i ∷ marks) h =
     ap (λ (m : ℕ). new_from m (drop k marks)) (omega arith) ∙ skip_numbered (suc n) k (suc i) marks (omega arith)
 
--- behind lines of a run the same ones are left
+-- after kept lines of a run the same lines are left to ask for
 pub run_unasked : (marks : List Mark) (j k : ℕ) → k ≤ kept_run (drop j marks) → new_lines_at (j + k) marks ≡ new_lines_at j marks
 run_unasked marks j k h =
     ap (λ (ms : List Mark). new_from (suc (j + k)) ms) (sym (drop-drop k j marks))
@@ -45,7 +45,7 @@ new_unasked marks j h e =
 pub none_unasked : (marks : List Mark) (j : ℕ) → length marks ≤ j → new_lines_at j marks ≡ []
 none_unasked marks j h = ap (new_from (suc j)) (drop_all j marks h)
 
--- no line is left behind a last line that is kept
+-- after a kept last line no line is left to ask for
 pub kept_last : (marks : List Mark) (j : ℕ) → length marks ≡ suc j → 0 < kept_run (drop j marks) → new_lines_at j marks ≡ []
 kept_last marks j h k = sym (run_unasked marks j 1 (omega arith)) ∙ none_unasked marks (j + 1) (omega arith)
 

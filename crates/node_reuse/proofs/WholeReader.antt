@@ -28,7 +28,7 @@ use Rattle.node_reuse.proofs.LineStarts.{line_starts, start_is_light}
 
 -- ---- the old tree
 
--- a tree that agrees is no heavier in a kept line than the rows tell
+-- in a kept line a tree that agrees weighs at most what the rows show
 stays_where_agreed : (old : Option Tree) (marks : List Mark) (now : List Row) → AgreesIfThere old marks now → StaysIfThere old marks now (row_weights now)
 stays_where_agreed None marks now h = h
 stays_where_agreed (Some old) marks now h = record { tree = h.tree; agrees = h.rows; light = light_where_agreed old marks now h.tree h.tight h.rows }
@@ -70,7 +70,7 @@ first_stands s line some table counted agrees scanned none =
           omega arith;
     }
 
--- what is ahead weighs no more than the lines may
+-- the weight ahead is within the bounds for the lines
 covered_start : (weights : List ℕ) (left : ℕ) → 0 < length weights → left ≤ slice_index weights 0 - 0 → AreCovered (left ∷ drop 1 weights) weights
 covered_start [] left some h = absurd (omega arith)
 covered_start (w ∷ weights) left some h = (omega arith, AreCovered-same weights)
@@ -97,7 +97,7 @@ start_fits s asked line table some agrees fits =
 pub whole_tree : (s : Sight) (t : Tree) → 0 < length s.contents → IsTreeOf (rows_from no_length (sight_rows s)) t → IsTreeOf (sight_rows s) t
 whole_tree s t some h = subst (λ (rows : List Row). IsTreeOf rows t) (all_rows s.by s.contents some) h
 
--- each line of it weighs no more than its row tells
+-- each of its lines weighs at most what its row shows
 whole_weights : (s : Sight) (asked : Asked) (line : Line) (t : Tree) → 0 < length s.contents → AgreesIfThere s.old.tree s.old.marks (sight_rows s)
     → AreCovered (tree_weights t) (weights_ahead (seen_at s asked no_length line)) → AreCovered (tree_weights t) (sight_weights s)
 whole_weights s asked line t some agrees h =

@@ -1,4 +1,4 @@
--- What the calls of a reader promise, whatever text it reads.
+-- What the calls of a reader guarantee, whatever text it reads.
 use Rattle.std.specs.Prelude.{◌≡◌, ℕ, ◌+◌, ◌≤◌, Bool, false, List, Result, IfOk, OnOk}
 use Rattle.text_lengths.specs.declared.Length.{Length}
 use Rattle.hiding_rules.specs.Hidden.{Scanner}
@@ -14,12 +14,12 @@ use Rattle.node_reuse.specs.Paying.{paying_at}
 
 -- ---- line n is entered, which is new: these are the contents of the lines
 
--- where the reader stood in it, it stands in it
+-- if the reader's state was valid at a place in the line, it is still valid after success
 abbrev pub StandsOnEntry : {A E : Type 0} → Scanner → List (List ℕ) → ℕ → Line → Line → Result A E → Type 0
 StandsOnEntry by contents n line line' result = (s : Sight) (p : Length) → s.by ≡ by → s.contents ≡ contents → p.lines + 1 ≡ n
     → mark_of s p ≡ New → StandsAt s p line → OnOk result (StandsAt s p line')
 
--- the line is asked for, if it was not
+-- the line is asked for, unless it already was
 abbrev pub AsksOnEntry : ℕ → List ℕ → List ℕ → Line → Line → Type 0
 AsksOnEntry n asked asked' line line' = (s : Sight) (p : Length) (borrows : List ℕ) → p.lines + 1 ≡ n → mark_of s p ≡ New
     → StandsAt s p line
@@ -42,12 +42,13 @@ abbrev pub PaysForNewLine : {E : Type 0} → Length → Line → Length → Line
 PaysForNewLine p line p' line' result = (s : Sight) (steps : ℕ) → StandsAt s p line
     → IfOk result (PaysFor (paying_at s steps p line) (paying_at s steps p' line'))
 
--- in a line that is kept, where brackets of these kinds are open, so many at once
+-- in a kept line, where `level` brackets are open, of the kinds `kinds`
 abbrev pub ReadsKeptLine : {E : Type 0} → OldText → Length → Length → ℕ → ℕ → Result Next E → Type 0
 ReadsKeptLine old p p' kinds level result = (s : Sight) (line : Line) → s.old ≡ old → IsKept s p → line.scanned ≡ false → StandsAt s p line
     → IfOk result (ReadsOn s p line p' line kinds level)
 
--- ... from so many steps on to so many, where one step more at most was taken there
+-- ... with the steps rising from `steps` to `steps'`; `asked`, the steps taken before this call, is at most one more
+-- than `steps`
 abbrev pub PaysForKeptLine : {E : Type 0} → OldText → Length → ℕ → Length → ℕ → ℕ → Result Next E → Type 0
 PaysForKeptLine old p asked p' steps' level result = (s : Sight) (line : Line) (steps : ℕ) → s.old ≡ old → IsKept s p
     → line.scanned ≡ false → StandsAt s p line → asked ≤ steps + 1 → HasRoom (paying_at s steps p line) level

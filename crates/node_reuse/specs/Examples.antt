@@ -25,7 +25,7 @@ all_new_lines_are_left = refl
 a_scanned_line_is_not_asked_for_again : unasked (edited_marks 2 2 3 (clean_marks 5)) (length_of 1 7) true ≡ 3 ∷ 4 ∷ []
 a_scanned_line_is_not_asked_for_again = refl
 
--- however many lines it has
+-- a run may have any number of lines
 new_lines_one_after_another_are_one_run : new_runs (edited_marks 2 2 3 (clean_marks 5)) ≡ 1
 new_lines_one_after_another_are_one_run = refl
 
@@ -36,15 +36,15 @@ a_run_that_is_known_is_not_asked_for = refl
 a_break_weighs_one : text_weights ((97 ∷ 98 ∷ []) ∷ (99 ∷ []) ∷ []) ≡ 3 ∷ 1 ∷ []
 a_break_weighs_one = refl
 
--- `a)b`, a break and `c`: the break holds the `b`
+-- `a)b`, a break and `c`: the break includes the `b`
 a_break_holds_what_stands_before_it : row_weights (text_rows standard_table ((97 ∷ 41 ∷ 98 ∷ []) ∷ (99 ∷ []) ∷ [])) ≡ 3 ∷ 1 ∷ []
 a_break_holds_what_stands_before_it = refl
 
--- `ab` and a break, as a text and the break that stands behind it
+-- `ab` and a break, as a text followed by a break
 abbrev loose : Tree
 loose = two (text (length_of 0 2)) (text (length_of 1 0))
 
--- rows tell nothing of that text: they are those of a break alone
+-- rows do not show that text: they are those of a break alone
 rows_do_not_tell_it : tree_rows loose ≡ text_rows standard_table ([] ∷ [] ∷ [])
 rows_do_not_tell_it = refl
 

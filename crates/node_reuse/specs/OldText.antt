@@ -1,4 +1,4 @@
--- What contracts see of an old text, and what of its tree may be taken over at a place of the text of now.
+-- The old text in contracts, and which nodes of its tree may be reused at a place of the current text.
 use Rattle.std.specs.Prelude.{◌≡◌, ℕ, ◌<◌, ◌^◌, false, List, Option, Some, None, refl}
 use Rattle.std.specs.Coded.{Coded, code_by, coded_ℕ, coded_list, coded×, coded_option}
 use Rattle.text_lengths.specs.declared.Length.{Length}
@@ -23,14 +23,14 @@ pub record IsOldPlace (marks : List Mark) (p q : Length) : Type 0 where
 abbrev pub IsNewLine : List Mark → Length → Type 0
 IsNewLine marks p = (line : ℕ) → IsKeptAs marks p line → ⊥
 
--- lines and columns that 64 bits tell
+-- lines and columns that fit 64 bits
 pub record Fits64 (p : Length) : Type 0 where
   pub lines : p.lines < 2 ^ 64
   pub columns : p.columns < 2 ^ 64
 
 -- ---- an old text
 
--- the tree of an old text, where there is one, and what the lines of the text of now are to it
+-- the tree of an old text, if there is one, and how the lines of the current text relate to it
 pub record OldText : Type 0 where
   pub tree : Option Tree
   pub marks : List Mark
@@ -40,7 +40,7 @@ old_text tree marks = record { tree = tree; marks = marks }
 
 -- ---- nodes
 
--- where there is no tree, no node is reusable
+-- without a tree no node is reusable
 abbrev pub IsReusableOf : Option Tree → List Mark → Length → ℕ → ℕ → Tree → Type 0
 IsReusableOf None marks p kinds level n = ⊥
 IsReusableOf (Some t) marks p kinds level n = Reusable t marks p kinds level n
@@ -48,7 +48,7 @@ IsReusableOf (Some t) marks p kinds level n = Reusable t marks p kinds level n
 abbrev pub IsReusable : OldText → Length → ℕ → ℕ → Tree → Type 0
 IsReusable old p kinds level n = IsReusableOf old.tree old.marks p kinds level n
 
--- of the nodes that are reusable at place p none is longer than this one
+-- n is reusable at place p, and no longer node is
 pub record IsLongestReusable (old : OldText) (p : Length) (kinds level : ℕ) (n : Tree) : Type 0 where
   pub reusable : IsReusable old p kinds level n
   pub longest : (m : Tree) → IsReusable old p kinds level m → is_before (tree_length n) (tree_length m) ≡ false
@@ -62,7 +62,7 @@ abbrev pub HasOldBracketOf : Option Tree → List Mark → Length → Bracket �
 HasOldBracketOf None marks p b = ⊥
 HasOldBracketOf (Some t) marks p b = IsOldBracket t marks p b
 
--- the bracket stood in the line that the line of place p is kept from, at its column
+-- the bracket was in the line from which the line of place p is kept, at the column of p
 abbrev pub HasOldBracket : OldText → Length → Bracket → Type 0
 HasOldBracket old p b = HasOldBracketOf old.tree old.marks p b
 

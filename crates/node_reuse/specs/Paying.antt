@@ -1,4 +1,4 @@
--- What a reader of the text of now pays: a step for each call that asks the old text.
+-- The cost of a reader of the current text: a step for each query of the old text.
 use Rattle.std.specs.Prelude.{◌≡◌, ℕ, suc, ◌+◌, ◌-◌, ◌*◌, ◌≤◌, Bool, true, false, if◌then◌else◌, List, [], ◌∷◌, drop, length, Option, Some, None, refl}
 use Rattle.text_lengths.specs.declared.Length.{Length}
 use Rattle.bracket_rules.specs.declared.TheConstants.{MOST_OPEN}
@@ -38,11 +38,11 @@ token_count by contents (n ∷ lines) = length (line_tokens by contents n) + tok
 abbrev pub tokens_read : Bool → Line → ℕ
 tokens_read scanned line = if scanned then length (tokens_left line) else 0
 
--- the tokens that are left of the line that is read, where it was scanned, and those of the lines to ask for
+-- the tokens left of the current line, if it was scanned, and those of the lines still to ask for
 abbrev pub tokens_ahead : Sight → Length → Line → ℕ
 tokens_ahead s p line = tokens_read line.scanned line + token_count s.by s.contents (unasked s.old.marks p line.scanned)
 
--- how many runs of new lines there are
+-- the number of runs of new lines
 abbrev pub new_runs : List Mark → ℕ
 new_runs [] = 0
 new_runs (New ∷ []) = 1
@@ -50,13 +50,13 @@ new_runs (New ∷ New ∷ marks) = new_runs (New ∷ marks)
 new_runs (New ∷ Kept i ∷ marks) = suc (new_runs marks)
 new_runs (Kept i ∷ marks) = new_runs marks
 
--- ... from line j on, from 0, where those before line `new_to` are known
+-- ... from line j on, counted from 0, where the lines before line `new_to` are already known to be new
 abbrev pub runs_ahead : List Mark → ℕ → ℕ → ℕ
 runs_ahead marks j new_to = new_runs (drop (j + (new_to - j)) marks)
 
 -- ---- what is paid
 
--- at place p, after so many steps: three more for the end
+-- at place p, after `steps` steps: three more are due for the end
 abbrev pub paying_at : Sight → ℕ → Length → Line → Paying
 paying_at s steps p line = record {
   known = all_paired_in s.old.tree;
@@ -66,7 +66,7 @@ paying_at s steps p line = record {
   deepest = nesting_in s.old.tree;
 }
 
--- ... and one more for each run of new lines that the old text was not yet asked for
+-- ... and one more for each run of new lines about which the old text was not yet queried
 abbrev pub paying_so : Sight → ℕ → Length → Line → ℕ → Paying
 paying_so s steps p line new_to = record (paying_at s steps p line) {
   due = (paying_at s steps p line).due + runs_ahead s.old.marks p.lines new_to;
@@ -74,13 +74,13 @@ paying_so s steps p line new_to = record (paying_at s steps p line) {
 
 -- ---- a bound
 
--- So many steps at most takes the parse of a text by an old tree of this nesting, whose lists are at most so high, where
--- the lines that are asked for are one run of so many tokens.
+-- An upper bound for the steps of a parse by an old tree of this nesting, whose lists have at most this height, where
+-- the lines asked for are one run with this number of tokens.
 abbrev pub most_steps : ℕ → ℕ → ℕ → ℕ
 most_steps nesting height tokens = tokens + 16 * ((nesting + 1) * (height + 1))
 
--- Where each bracket of the old tree is one of a pair, the lines that are asked for are one run, and its tokens leave room for
--- the old pairs, no more steps are taken than that.
+-- The steps are within this bound if every bracket of the old tree is one of a pair, the lines asked for are one run,
+-- and its tokens leave room for the old pairs.
 abbrev pub TakesFewSteps : OldText → Scanner → List (List ℕ) → List ℕ → ℕ → ℕ → Type 0
 TakesFewSteps old by contents asked from to = (tree : Tree) → old.tree ≡ Some tree → all_paired tree ≡ true → IsOneRun asked
     → let tokens = token_count by contents asked in

@@ -1,4 +1,4 @@
--- A reader of the text of now: what it sees, what it keeps true from call to call, and which lines it has yet to ask for.
+-- A reader of the current text: what it sees, the invariant of its calls, and which lines it still has to ask for.
 use Rattle.std.specs.Prelude.{◌≡◌, ℕ, suc, ◌+◌, ◌<◌, ◌≤◌, Bool, true, false, List, [], ◌∷◌, length, drop}
 use Rattle.std.specs.Borrow.{MutBor}
 use Rattle.text_lengths.specs.declared.Length.{Length}
@@ -24,7 +24,7 @@ use Rattle.node_reuse.specs.Reading.{StaysIfThere, IsInLine, left_at}
 
 -- ---- what is read
 
--- the text of now, by what its lines are scanned, and an old text, which tells what they are to it
+-- the current text, the scanner of its lines, and an old text with the relation of the lines to it
 pub record Sight : Type 0 where
   pub by : Scanner
   pub contents : List (List ℕ)
@@ -48,11 +48,11 @@ IsKept s p = (i : ℕ) × (mark_of s p ≡ Kept i)
 
 -- ---- which lines are asked for
 
--- the numbers of the new lines from line j on, where j is counted from 0
+-- the numbers of the new lines from line j on; j is counted from 0
 abbrev pub new_lines_at : ℕ → List Mark → List ℕ
 new_lines_at j marks = new_from (suc j) (drop j marks)
 
--- those that a reader at place p has yet to ask for: not the line that it reads, where it scanned that
+-- the lines that a reader at place p still has to ask for: without the current line, if that was scanned
 abbrev pub unasked : List Mark → Length → Bool → List ℕ
 unasked marks p false = new_lines_at p.lines marks
 unasked marks p true = new_lines_at (suc p.lines) marks
@@ -61,7 +61,7 @@ abbrev pub asked_if : Bool → ℕ → List ℕ
 asked_if false n = []
 asked_if true n = n ∷ []
 
--- the lines that were asked for so far, and by which borrows lines are read
+-- the lines asked for so far, and the borrows by which lines are read
 pub record Asked : Type 0 where
   pub lines : List ℕ
   pub borrows : List ℕ
@@ -95,13 +95,13 @@ seen_at s asked p line = record {
 abbrev pub tokens_left : Line → List Token
 tokens_left line = drop line.next line.tokens.items
 
--- what is read belongs together: the marks tell of each line, and the old tree agrees under them
+-- the data are consistent: the marks cover each line, and the old tree agrees with the text under them
 pub record IsSound (s : Sight) : Type 0 where
   pub table : is_table s.by.table ≡ true
   pub counted : length s.old.marks ≡ length s.contents
   pub stays : StaysIfThere s.old.tree s.old.marks (sight_rows s) (sight_weights s)
 
--- the reader stands at place p, and this is what it knows of its line
+-- the reader is at place p, and `line` is what it knows of the line there
 pub record StandsAt (s : Sight) (p : Length) (line : Line) : Type 0 where
   pub sound : IsSound s
   pub reached : Reached (sight_rows s) p (rows_from p (sight_rows s))
@@ -110,19 +110,20 @@ pub record StandsAt (s : Sight) (p : Length) (line : Line) : Type 0 where
   pub is_new : line.scanned ≡ true → mark_of s p ≡ New
   pub asked : line.asked + length (unasked s.old.marks p line.scanned) ≡ length (new_lines s.old.marks)
 
--- the line of place p is the last one, or it is not
+-- whether the line of place p is the last one
 abbrev pub IsLast : Sight → Length → Bool → Type 0
 IsLast s p true = length s.contents ≡ suc p.lines
 IsLast s p false = suc p.lines < length s.contents
 
--- this came next, and the reader went on from place p to place q
+-- `next` came, and the reader moved from place p to place q
 pub record ReadsOn (s : Sight) (p : Length) (from : Line) (q : Length) (to : Line) (opened level : ℕ) (next : Next) : Type 0 where
   pub comes : (asked : Asked) → Comes (seen_at s asked p from) (seen_at s asked q to) opened level next
   pub asks : (asked : Asked) → AsksOn (asking_at s asked p from) (asking_at s asked q to)
   pub stands : StandsAt s q to
 
--- It stands there, and the lines that it reads were settled: each begins in its state, and a restarted one is as a new one.
--- Those before line `new_to`, from 0, are known to be new, with the one that was scanned.
+-- The reader is at place p, and the lines that it reads were settled: each begins in its state, and a restarted line
+-- counts as new. The lines from there up to line `new_to`, counted from 0 and excluded, are known to be new, as is a
+-- line that was scanned.
 pub record Stands (s : Sight) (settled : SettledState) (p : Length) (line : Line) (new_to : ℕ) : Type 0 where
   pub at : StandsAt s p line
   pub marks : s.old.marks ≡ settled.marks

@@ -1,4 +1,4 @@
--- What a reader of the text of now knows at a place: of the old text, and of the line that it reads.
+-- What a reader of the current text knows at a place: of the old text, and of the line that it reads.
 use Rattle.std.specs.Prelude.{◌≡◌, ℕ, ◌+◌, ◌-◌, Bool, true, false, List, Option, Some, None, length}
 use Rattle.text_lengths.specs.declared.Length.{Length}
 use Rattle.text_lengths.specs.Length.{length_of}
@@ -20,19 +20,19 @@ use Rattle.node_reuse.specs.Ahead.{fresh_left, IsFresh}
 abbrev pub AllNew : List Mark → Type 0
 AllNew marks = (n i : ℕ) → mark_at n marks ≡ Kept i → ⊥
 
--- The tree of the old text agrees with the rows of now under the marks. It is a tree of a text: it meets the rules of
--- nodes, and its breaks hold what stands before them.
+-- The tree of the old text agrees with the current rows under the marks. It is the tree of a text: it meets the rules
+-- of nodes, and its breaks include the text before them.
 pub record AgreesWith (old : Tree) (marks : List Mark) (now : List Row) : Type 0 where
   pub tree : IsTree old
   pub tight : IsTight old
   pub rows : Agrees (tree_rows old) marks now
 
--- where there is no tree, no line is kept
+-- without a tree no line is kept
 abbrev pub AgreesIfThere : Option Tree → List Mark → List Row → Type 0
 AgreesIfThere None marks now = AllNew marks
 AgreesIfThere (Some old) marks now = AgreesWith old marks now
 
--- what a reader knows of it: in a kept line the tree is no heavier than that line may be
+-- what a reader knows of it: in a kept line the tree weighs at most the bound for that line
 pub record Stays (old : Tree) (marks : List Mark) (now : List Row) (weights : List ℕ) : Type 0 where
   pub tree : IsTree old
   pub agrees : Agrees (tree_rows old) marks now
@@ -44,7 +44,7 @@ StaysIfThere (Some old) marks now weights = Stays old marks now weights
 
 -- ---- the line that is read
 
--- at place p, in a line that is kept as this one, the reader follows the old text
+-- at place p, in a line kept from old line `line`, the reader follows the old text
 pub record IsFollowing (old : Tree) (marks : List Mark) (now : List Row) (weights : List ℕ) (p : Length) (line : ℕ) : Type 0 where
   pub tree : IsTree old
   pub light : IsLightBy old marks weights
@@ -52,15 +52,15 @@ pub record IsFollowing (old : Tree) (marks : List Mark) (now : List Row) (weight
   pub reached : Reached now p (rows_from p now)
   pub follows : Follows old marks p (rows_from p now) line
 
--- A line with this mark, where the reader stands at place p: a new line is read from its start on, once these tokens and
--- columns of it are known; in a kept one the reader follows the old text.
+-- The state of a reader at place p, in a line with this mark: a new line is read from its start, once its tokens and
+-- columns are known; in a kept line the reader follows the old text.
 abbrev pub IsInLine : Mark → Option Tree → List Mark → List Row → List ℕ → Length → Bool → List Token → ℕ → Type 0
 IsInLine New old marks now weights p false tokens columns = p.columns ≡ 0
 IsInLine New old marks now weights p true tokens columns = IsFresh now weights p tokens columns
 IsInLine (Kept i) None marks now weights p entered tokens columns = ⊥
 IsInLine (Kept i) (Some old) marks now weights p entered tokens columns = IsFollowing old marks now weights p (i - 1)
 
--- what is left of a line with this mark from place p on: in a kept one what the old line has left
+-- the weight left of a line with this mark from place p on; for a kept line, the weight left of the old line
 abbrev pub left_by : Mark → Option Tree → List ℕ → Length → ℕ
 left_by New old weights p = fresh_left weights p
 left_by (Kept i) None weights p = fresh_left weights p

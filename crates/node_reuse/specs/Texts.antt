@@ -1,4 +1,4 @@
--- The lines of a text of now: what they may weigh, and which of them are read.
+-- The lines of a current text: bounds for their weight, and which of them are read.
 use Rattle.std.specs.Prelude.{ℕ, ◌+◌, ◌-◌, ◌≤◌, List, [], ◌∷◌, slice_index, slice_index_or}
 use Rattle.text_lengths.specs.Length.{length_of}
 use Rattle.bracket_rules.specs.declared.Token.{Token}
@@ -13,25 +13,25 @@ use Rattle.mark_rules.specs.declared.Mark.{Mark}
 use Rattle.reuse_rules.specs.Reuse.{IsKeptAs}
 use Rattle.bracket_tree_rules.specs.Leaves.{line_weight}
 
--- where the last of these brackets of a line ends, or this column where there is none
+-- the end of the last of these brackets of a line, or this column if there are none
 abbrev pub brackets_end : ℕ → List Token → ℕ
 brackets_end column [] = column
 brackets_end column (t ∷ ts) = brackets_end (t.at + t.len) ts
 
--- what each line weighs where its break holds what stands behind its last bracket, as far as the rows tell
+-- the weight of each line if its break includes the text after its last bracket, as far as the rows show
 abbrev pub row_weights : List Row → List ℕ
 row_weights [] = []
 row_weights (r ∷ []) = r.columns ∷ []
 row_weights (r ∷ s ∷ rows) = (brackets_end 0 r.brackets + 1) ∷ row_weights (s ∷ rows)
 
--- each break in the tree holds what stands in its line behind the last bracket, so that no text stands before it there
+-- each break in the tree includes the text of its line after the last bracket, so that no separate text is before it
 abbrev pub IsTight : Tree → Type 0
 IsTight t = AreCovered (tree_weights t) (row_weights (tree_rows t))
 
--- where line j is kept as an old line, both counted from 0, the old one weighs no more than line j may
+-- if line j is kept from an old line, both counted from 0, the old one weighs at most the bound for line j
 abbrev pub IsLightBy : Tree → List Mark → List ℕ → Type 0
 IsLightBy old marks weights = (j line : ℕ) → IsKeptAs marks (length_of j 0) line → line_weight old line ≤ slice_index weights j
 
--- the tokens of line n of a text, from 1, which begins as the line before it ended
+-- the tokens of line n of a text, counted from 1, scanned in the state in which the line before it ended
 abbrev pub line_tokens : Scanner → List (List ℕ) → ℕ → List Token
 line_tokens by contents n = (hidden_scan by (slice_index_or (line_states by contents) (n - 1) Code) (content_at n contents)).tokens

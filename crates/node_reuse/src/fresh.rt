@@ -1,4 +1,4 @@
-// What comes in a new line.
+// Reads a new line.
 ghost use Rattle.std.specs.Prelude.{◌≡◌, ◌-◌, ◌^◌, ◌<◌, ◌≤◌, true, IfOk, OnErr};
 ghost use Rattle.bracket_rules.specs.Table.{AreInLine};
 ghost use Rattle.bracket_tree_rules.specs.Tree.{text, wide};
@@ -15,8 +15,8 @@ const LINE_BREAK: Length = Length {
     columns: 0,
 };
 
-// What comes next in a line that was scanned, whether or not it is the last one: a bracket, the columns before it, the
-// break, or the end of the text. An error leaves the reader where it was.
+// Returns the next item of a line that was scanned: a bracket, the columns before it, the break, or, in the last
+// line, the end of the text. An error leaves the reader where it was.
 pub(crate) fn next_of_line(
     alloc: Global,
     last: bool,
@@ -55,7 +55,7 @@ pub(crate) fn next_of_line(
     Ok(Next::End)
 }
 
-// The columns of a line up to this one.
+// Returns the columns of a line up to `column`, and moves on to it.
 fn gap(alloc: Global, place: &mut Length, column: u64) -> Result<Next, AllocError>
     requires { place.old.columns < column }
     ensures gap { IfOk result (λ next. next ≡ Next.Ready (text (wide (column - place.old.columns)))) }

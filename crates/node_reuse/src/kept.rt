@@ -1,4 +1,4 @@
-// What comes in a kept line.
+// Reads a kept line.
 ghost use Rattle.std.specs.Prelude.{◌≡◌, ◌+◌, ◌<◌, ◌≤◌, length, OnErr};
 ghost use Rattle.node_reuse.specs.Calls.{ReadsKeptLine, PaysForKeptLine};
 
@@ -9,8 +9,8 @@ use std::alloc::AllocError;
 use steps::Steps;
 use text_lengths::Length;
 
-// What comes next in a kept line, where brackets of these kinds are open, `level` of them: the longest old node that may
-// stand there, else the old bracket, else the end of the text. An error leaves the reader where it was.
+// Returns the next item of a kept line, where `level` brackets are open, of the kinds `opened`: the longest old node
+// that may be taken there, else the old bracket, else the end of the text. An error leaves the reader where it was.
 pub(crate) fn next_of_old<O: Old, L>(
     old: &mut O,
     place: &mut Length,

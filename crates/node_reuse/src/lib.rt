@@ -1,4 +1,4 @@
-//! The bracket tree of a text whose lines changed in part: what of the old tree may be taken over.
+//! The bracket tree of a text of which some lines changed: finds what may be reused of the old tree.
 #![tactic(auto)]
 
 mod fresh;

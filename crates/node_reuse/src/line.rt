@@ -1,4 +1,4 @@
-// The line of a text that is read.
+// The line being read.
 ghost use Rattle.std.specs.Prelude.{◌≡◌, ◌+◌, ◌^◌, ◌<◌, ◌≤◌, ◌++◌, ◌∷◌, [], drop, true, false, length, IfOk, OnOk, IfSome, IfNone};
 ghost use Rattle.bracket_rules.specs.Table.{is_table};
 ghost use Rattle.hiding_rules.specs.Hidden.{scanner};
@@ -12,22 +12,22 @@ use bracket_scan::{BracketTable, Hiding};
 use line_states::{Lines, Settled};
 use std::alloc::{AllocError, Global};
 
-// What a reader knows of the line that it reads. Each line is read into the same buffers.
+// What a reader knows of the line that it reads. All lines are read into the same buffers.
 #[derive(Drop)]
 pub(crate) struct Line {
-    // How many lines were asked for, with this one where it was.
+    // The number of lines asked for, including this one if it was.
     pub asked: u64,
     // Whether the line was asked for and scanned: if not, nothing is known of it.
     pub scanned: bool,
     pub content: Vec<u16>,
-    // Its brackets, and how many of them were taken.
+    // The line's brackets, and the number of them already taken.
     pub tokens: Vec<Token>,
     pub next: usize,
     pub columns: u64,
 }
 
 impl Line {
-    // The next of its brackets.
+    // Returns the next of the line's brackets.
     pub fn token(&self) -> Option<Token>
         ensures some { IfSome result (λ token. tokens_left self.now
             ≡ token ∷ drop (self.now.next + 1) self.now.tokens.items) }
@@ -42,7 +42,8 @@ impl Line {
     }
 }
 
-// No line yet. An empty one is scanned, which takes no memory: what scans is a table.
+// Returns the state before the first line: no line was asked for, and none is scanned. It scans an empty line, which
+// takes no memory; that proves that the table is valid.
 pub(crate) fn first_line(alloc: Global, table: &BracketTable) -> Result<Line, AllocError>
     ensures asked { IfOk result (λ line. line.asked ≡ 0) }
     ensures scanned { IfOk result (λ line. line.scanned ≡ false) }
@@ -61,7 +62,7 @@ pub(crate) fn first_line(alloc: Global, table: &BracketTable) -> Result<Line, Al
     })
 }
 
-// By what the lines of a text are scanned, and in which state each begins.
+// The rules for scanning the lines of a text: the table, what hides brackets, and the state in which each line begins.
 #[derive(Clone, Copy)]
 pub(crate) struct LineRules<'a> {
     pub table: &'a BracketTable,
@@ -69,8 +70,8 @@ pub(crate) struct LineRules<'a> {
     pub settled: &'a Settled<'a>,
 }
 
-// Asks for line `n` once, from 1, and scans it. After an error it is scanned if it was asked for, but then nothing is
-// known of it.
+// Asks for line `n`, from 1, once, and scans it. After an error the line is scanned if it was asked for, but nothing
+// is known of it.
 pub(crate) fn scan<Q: Lines>(
     rules: LineRules<'_>,
     lines: &mut Q,

@@ -1,4 +1,4 @@
-// The marks of the lines, of which the one that was looked up last is remembered.
+// The marks of the lines, with the last look-up cached.
 ghost use Rattle.std.specs.Prelude.{◌≡◌, ◌+◌, ◌^◌, ◌<◌, drop, length, IfSome};
 ghost use Rattle.mark_rules.specs.Marks.{mark_at, kept_run, new_run, Rises};
 
@@ -6,12 +6,12 @@ use line_hunks::Hunks;
 use mark_rules::Mark;
 use std::marker::Model;
 
-// The marks of the lines of a text. A look-up is remembered, so that none is made for that line, and for the kept ones
-// that follow it one after another, until another line is looked up. Lines are counted from 0.
+// The marks of the lines of a text. The last look-up is cached: it answers for its line and for the run of kept lines
+// from there, until another line is looked up. Lines are counted from 0.
 #[derive(Drop)]
 pub(crate) struct LineMarks<'h> {
     hunks: &'h Hunks,
-    // The line that was looked up last, its mark, and how many lines from it on are kept one after another.
+    // The line looked up last, its mark, and the length of the run of kept lines from it on.
     line: u64,
     mark: Mark,
     kept: u64,
@@ -43,7 +43,7 @@ impl<'h> LineMarks<'h> {
         }
     }
 
-    // The mark of a line, and how many lines from it on are kept one after another. At most one look-up.
+    // Returns the mark of a line, and the length of the run of kept lines from it on. Makes at most one look-up.
     pub fn at(&mut self, line: u64) -> (Mark, u64)
         requires { line < length self.old }
         ensures mark { result.0 ≡ mark_at (line + 1) self.old }
@@ -60,7 +60,7 @@ impl<'h> LineMarks<'h> {
         (self.mark, self.kept)
     }
 
-    // How many lines from this one on are new, one after another; 0 where it is kept.
+    // Returns the length of the run of new lines from this one on; 0 if this line is kept.
     pub fn new_from(&mut self, line: u64) -> u64
         requires { line < length self.old }
         ensures run { result ≡ new_run (drop line self.old) }
@@ -72,7 +72,7 @@ impl<'h> LineMarks<'h> {
         }
     }
 
-    // The same as `at` by what is remembered; None where that is too little.
+    // The same as `at`, from the cached look-up; None if that does not suffice.
     fn remembered(&self, line: u64) -> Option<(Mark, u64)>
         ensures mark { IfSome result (λ told. told.0 ≡ mark_at (line + 1) self.now) }
         ensures kept { IfSome result (λ told. told.1 ≡ kept_run (drop line self.now)) }

@@ -18,8 +18,8 @@ use std::marker::Model;
 use steps::Steps;
 use text_lengths::Length;
 
-/// An old text, from a place of the text of now. Lines are counted from 0. Each call takes one step and leaves the text as it
-/// was; none fails for want of memory.
+/// An old text, queried at places of the current text. Lines are counted from 0. Each call takes one step and leaves
+/// the text unchanged; none fails for lack of memory.
 pub trait Old {
     ghost use Rattle.std.specs.Borrow.{sem};
     ghost use Rattle.std.specs.Io.BufRead.{Rests};
@@ -28,8 +28,8 @@ pub trait Old {
 
     ghost text: { Self → OldText };
 
-    /// The longest node of the old tree that may stand at this place of the text of now, where brackets of these kinds
-    /// are open, `level` of them.
+    /// Finds the longest node of the old tree that may be used at this place of the current text, where `level`
+    /// brackets are open, of the kinds `opened`; None if there is none.
     fn longest_at<L>(
         &mut self,
         place: Length,
@@ -46,15 +46,16 @@ pub trait Old {
         ensures step { steps.new ≡ steps.old + 1 }
         ensures* same { sem 𝓛 (Rests Self.row self.entry (λ after. text after ≡ text self.old)) };
 
-    /// How many lines from this one on are new, one after another; 0 where this one is kept: an old line stands in its
-    /// place, with the brackets that it has now.
+    /// Returns the length of the run of new lines from this one on; 0 if this line is kept: then it corresponds to an
+    /// old line with the same brackets.
     fn new_from<L>(&mut self, line: u64, steps: &mut Steps<L>) -> u64
         requires { line < length (text self.old).marks }
         ensures run { result ≡ new_run (drop line (text self.old).marks) }
         ensures step { steps.new ≡ steps.old + 1 }
         ensures same { text self.new ≡ text self.old };
 
-    /// The old bracket at this place of the text of now, as one of its line; none where the line is new.
+    /// Returns the old bracket at this place of the current text, as a token of its line; None if none starts there
+    /// or the line is new.
     fn token_at<L>(&mut self, place: Length, steps: &mut Steps<L>) -> Option<Token>
         requires { place.lines < length (text self.old).marks }
         ensures some { IfSome result (IsOldToken (text self.old) place) }
@@ -64,14 +65,14 @@ pub trait Old {
         ensures same { text self.new ≡ text self.old };
 }
 
-// A place of an old text, and how many lines are kept one after another from its line on.
+// A place of an old text, and the length of the run of kept lines from its line on.
 #[derive(Clone, Copy)]
 pub(crate) struct OldPlace {
     pub place: Length,
     pub lines: u64,
 }
 
-/// The tree of an old text, where there is one, and what each line of the text of now is to it.
+/// The tree of an old text, if there is one, and how each line of the current text relates to it.
 #[derive(Drop)]
 pub struct OldReader<'a> {
     tree: Option<NodeReader<'a>>,
@@ -89,7 +90,7 @@ impl<'a> Model for OldReader<'a> {
 }
 
 impl<'a> OldReader<'a> {
-    /// The reader of this tree, under the marks of lines that were settled.
+    /// Makes the reader of this tree, with the marks of settled lines.
     pub fn new(alloc: Global, tree: Option<&'a Node>, settled: &'a Settled<'a>) -> OldReader<'a>
         ensures tree { result.tree ≡ option_copied tree.entry }
         ensures marks { result.marks ≡ settled.now.marks }
@@ -102,7 +103,7 @@ impl<'a> OldReader<'a> {
         OldReader { tree, marks }
     }
 
-    // The place of the old text that this one is kept from.
+    // Returns the place of the old text from which this place is kept.
     fn old_place(&mut self, place: Length) -> Option<OldPlace>
         requires { place.lines < length self.old.marks }
         ensures fits { length self.old.marks < 2 ^ 62 }
@@ -135,7 +136,7 @@ impl<'a> OldReader<'a> {
     {
         let old = self.old_place(place)?;
         let tree = self.tree.as_mut()?;
-        // No tree is longer than 64 bits tell.
+        // Establishes that the tree's length fits 64 bits.
         let _length = tree.length();
         tree.longest_at(old.place, old.lines, opened, level)
     }
@@ -154,7 +155,7 @@ impl<'a> OldReader<'a> {
         tree.bracket_at(old.place)
     }
 
-    // The node, for as long as the reader is borrowed.
+    // Shortens the lifetime of the node to the borrow of the reader.
     fn lent<'b>(&'b self, found: Option<NodeRef<'a>>) -> Option<NodeRef<'b>>
         ensures { result ≡ found.entry }
     {

@@ -1,4 +1,4 @@
-//! The parse of a text whose lines changed in part.
+//! The parse of a text of which some lines changed.
 
 ghost use Rattle.std.specs.Prelude.{◌≡◌, ◌<◌, ◌++◌, true, length, IfOk, OnOk, OnErr};
 ghost use Rattle.bracket_rules.specs.Table.{is_table};
@@ -23,7 +23,7 @@ use std::marker::Model;
 use steps::Steps;
 use text_lengths::Length;
 
-/// The tree of a text, and how many of its lines the parse asked for.
+/// The tree of a text, and the number of its lines that the parse asked for.
 #[derive(Drop)]
 pub struct Parsed {
     tree: Node,
@@ -41,14 +41,14 @@ impl Model for Parsed {
 }
 
 impl Parsed {
-    /// The tree. It starts at the start of the text.
+    /// Returns the tree. It starts at the start of the text.
     pub fn tree(&self) -> &Node
         ensures { result.now ≡ self.now.tree }
     {
         &self.tree
     }
 
-    /// How many lines of the text were asked for.
+    /// Returns the number of lines of the text that were asked for.
     pub fn asked(&self) -> u64
         ensures { result ≡ self.now.asked }
     {
@@ -56,12 +56,12 @@ impl Parsed {
     }
 }
 
-/// The tree of a text of now, whose lines were settled, by the table and what hides brackets, with what may be taken over
-/// of an old text that agrees with it under the marks. Each line that is new or restarted is asked for once, in order, and
-/// no other line is. Each call that asks the old text is a step. In no line the tree's leaves weigh more than its units, and
+/// Parses the current text, whose lines were settled, by the table and what hides brackets, and reuses what it may of
+/// an old text that agrees with it under the marks. Each new or restarted line is asked for once, in order; no other
+/// line is. Each query of the old text is one step. In each line the tree's leaves weigh at most the line's units and
 /// one for its break.
 ///
-/// An error is want of memory: some of those lines were asked for then, and nothing else was changed.
+/// The only error is lack of memory: then some of those lines were asked for, and nothing else changed.
 pub fn reparse<O: Old + Drop, Q: Lines, L>(
     alloc: Global,
     mut old: O,

@@ -1,4 +1,4 @@
-// A source that takes over what it may of an old text.
+// A source that reuses what it may of an old text.
 ghost use Rattle.std.specs.Prelude.{◌≡◌, ◌+◌, ◌<◌, ◌≤◌, ◌^◌, true, false, ℕ, drop, length, OnOk};
 ghost use Rattle.hiding_rules.specs.Hidden.{scanner};
 ghost use Rattle.hiding_rules.specs.States.{line_states};
@@ -17,16 +17,16 @@ use std::alloc::{AllocError, Global};
 use steps::Steps;
 use text_lengths::Length;
 
-// A reader of the text of now.
+// A reader of the current text.
 #[derive(Drop)]
 pub(crate) struct Reader<'o, 't, 'q, 's, 'l, O, Q, L> {
     pub text: &'o mut O,
     pub rules: LineRules<'t>,
     pub lines: &'q mut Q,
     pub steps: &'s mut Steps<L>,
-    // Where it stands; lines are counted from 0.
+    // The place of the reader; lines are counted from 0.
     pub place: Length,
-    // The lines before this one, from the one where it stands on, are known to be new.
+    // The lines from the reader's place up to this one, excluded, are known to be new.
     pub new_to: u64,
     pub line: &'l mut Line,
 }
@@ -65,8 +65,8 @@ impl<O: Old, Q: Lines, L> Source for Reader<'_, '_, '_, '_, '_, O, Q, L> {
     }
 }
 
-// Whether a line is kept, from 0. The old text is asked at the start of a kept line, and once for new lines that follow one
-// another.
+// Whether a line, counted from 0, is kept. The old text is queried at the start of a kept line, and once for each run
+// of new lines.
 fn is_kept<O: Old, L>(
     old: &mut O,
     line: u64,
@@ -102,7 +102,7 @@ fn is_kept<O: Old, L>(
     line == *new_to
 }
 
-// Scans line `n`, which is new, if it was not scanned: it is asked for once.
+// Scans line `n`, which is new, unless it was already scanned: it is asked for once.
 fn enter<Q: Lines>(
     rules: LineRules<'_>,
     lines: &mut Q,

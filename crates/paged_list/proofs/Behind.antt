@@ -3,7 +3,7 @@
 --     held                        the machine value of a block whose slots begin at p
 --     opened, whole               a block by value is [its slots; all else], and back
 --     opens_at, closes_at         a block behind a `&mut`, opened at one of its slots, and closed again with that slot anew
---     Elsewhere, comes_home       all that is left of a block in memory one of whose values is lent, and the block again, at any value there
+--     Elsewhere, comes_home       a block in memory without one lent value, and the whole block again, with any value there
 --     shown, twice                what a `&` to a block shows;  and that of a pointer in memory, which is shown twice
 --     begun, spends, lent_still   the begin of a walk with two type parameters, and its end
 use Rattle.paged_list.proofs.Steps.{◌≡◌, ℕ, zero, suc, ◌+◌, ◌*◌, ◌<◌, ◌^◌, List, [], ◌∷◌, length, get_or, set, Option, Some, None, MutBor, refl, sym, ap, subst, ◌∙◌, length-set, type_size, Ghosts, Ura, Fml, Lft, Share, GName, ftrue, fhide, flft, fobor, fbor, fobs, fauth, fsep, full_share, SProp, ent, sep, emp, id⊢, never, Gv, fact, Is, shows, cell_at, hidden_shr, lone, mem, part_at, part_of, shr_dup, bounded, param, Laws, param_laws, RattleType, Ptr, RawPtr, block_ptr, in_a_block, ptr_row_laws, ptr_val, MutRef, makes_shadow, closes, heard, nothing, opens, peeks, lent_out, Owning, shape, to, Struct, bare, Args, Body, Dict, a_type, dcons, dnil, named, ty_array, Val, vcons, vnil, vptr, vstruct, Calls, Env, Heap, Loops, Out, Wp, after_seq, Goal, Item, Post, Seq, Soaks, Step, any_q, done, drop, feq_i, fjoin, fjoin3, flt_i, flt_l, fpack, fsplit, fsplit3, move, post, qed, raw, rewrite, split, split3, step, use1, use2, ‵, ◌⊛◌, ◌$◌, ◌∵◌, !, Logic, sem, Borrowed}
@@ -51,7 +51,7 @@ module _ (P : Given) where
   Right a m p = P.ghosts.dealloc_token a (bare (ty_array (lone Thing.mir) m)) p
 
   module _ (h : Blk.Denot) where
-    -- all but the slots, of a block that has m of them
+    -- all parts except the slots, for a block of m slots
     abbrev pub Beside : ℕ → Fml
     Beside m = fsep ((Struct (shape Parts)).own_val (to Parts h) (held h.start ∷ [])) (Right h.from m h.start)
 
@@ -90,7 +90,7 @@ module _ (P : Given) (h : (Blk P).Denot) (i : ℕ) where
   abbrev pub Chosen : ℕ → ℕ → Option P.item.Denot → Fml
   Chosen b n c = slot_owned (Thing P) b c (i * width P + n)
 
-  -- the other slots, and all else but the block's cell
+  -- the other slots, and all parts except the block's cell
   abbrev pub Others : ℕ → ℕ → Fml
   Others b n = fsep (but_one (width P) (slot_owned (Thing P) b) i h.holds n) (Beside P h (length h.holds))
 
@@ -156,7 +156,7 @@ pub twice : {M : Type 1} {𝓤 : Ura M} (𝓛 : Logic 𝓤) (p : Ptr) (κ : Lft)
     → ent 𝓤 (sem 𝓛 (hidden_shr RawPtr κ p b n)) (sep 𝓤 (sem 𝓛 (hidden_shr RawPtr κ p b n)) (sem 𝓛 (hidden_shr RawPtr κ p b n)))
 twice 𝓛 p κ b n = qed 𝓛 (‵ (hidden_shr RawPtr κ p b n) ∷ []) ∵ shr_dup ! RawPtr ptr_row_laws p b n κ $ done !
 
--- nothing, of k parameters
+-- nothing, for k parameters
 abbrev pub spent : ℕ → Fml
 spent zero = ftrue
 spent (suc k) = fsep ftrue (spent k)
@@ -166,7 +166,8 @@ module _ {M : Type 1} {𝓤 : Ura M} {𝓛 : Logic 𝓤} {T : Type 0} {Δ : List
   spends t zero = nothing t
   spends t (suc k) = step (λ next. spends t k $ nothing t $ fjoin t $ next)
 
-  -- of the tokens the first is set apart, and of the clauses the lifetimes' bounds are learned: [the `requires`; the parameters; the first token; the others]
+  -- the first token is split off, and the bounds of the lifetimes are taken from the clauses:
+  -- [the `requires`; the parameters; the first token; the others]
   pub begun : T → (φ ψ : Type 0) {token tokens params asked : Item 𝓤} → (ψ → Seq T 𝓛 (asked ∷ params ∷ token ∷ tokens ∷ Δ) Aim)
       → Seq T 𝓛 (((token ⊛ tokens) ⊛ params) ∷ (raw (fact 𝓤 φ) ⊛ raw (fact 𝓤 ψ) ⊛ asked) ∷ Δ) Aim
   begun t φ ψ next = move t (1 ∷ []) $ split3 t $ drop t $ heard t ψ (λ y. move t (1 ∷ []) $ split t $ split t $ move t (3 ∷ 2 ∷ 0 ∷ 1 ∷ []) $ next y)
@@ -176,7 +177,7 @@ module _ {M : Type 1} {𝓤 : Ura M} {𝓛 : Logic 𝓤} {T : Type 0} {Δ : List
       → Step T 𝓛 (‵ ((MutRef (named 0) κ R).own_val r vs) ∷ Δ) Aim (‵ (fobs r.ghost_name (R.coded.code r.now)) ∷ ‵ (fbor κ (Borrowed (mem R) r.ref_ptr.0 r.ref_ptr.1 r.ghost_name)) ∷ Δ) Aim
   lent_still t R κ r vs is = step (λ next. feq_i t (List Val) vs (vptr r.ref_ptr.0 r.ref_ptr.1 ∷ []) is $ fjoin3 t $ next)
 
--- what is left to show where a part of a body ends, and b comes next
+-- what remains to be shown when a part of a body ends and b comes next
 abbrev pub Ending : {M : Type 1} (𝓤 : Ura M) → Heap 𝓤 → Type 2
 Ending = Post
 

@@ -1,6 +1,6 @@
--- A block as the allocator knows it, and as a row of empty slots. Assumes `Logic`.
---     bytes, aligned     the block's size and alignment, as a call of the allocator is told them
---     carved, smoothed   room for m items is a row of m empty slots;  and any row is room again, whatever lies there
+-- A block as its allocator sees it, and as a row of empty slots. Assumes `Logic`.
+--     bytes, aligned     the block's size and alignment, as passed to the allocator
+--     carved, smoothed   room for m items is a row of m empty slots;  and any row is room again, with any content
 use Rattle.paged_list.proofs.Steps.{◌≡◌, ℕ, zero, suc, ◌+◌, ◌*◌, ◌<◌, ◌^◌, List, [], ◌∷◌, length, replicate, Option, Some, None, refl, ap, ◌∙◌, Ura, fat, froom, ftrue, full_share, ent, part_out, layout, bare, Ty, ty_array, Val, capped_is, size, align, capped, size-raw, align-raw, ‵, ◌⊛◌, some, ◌$◌, ◌∵◌, !, qed, by, done, fjoin, fsplit, keep, move, pick, split, use1, Logic, sem}
 use Rattle.paged_list.specs.Slots.{in_a_row, slot_owned}
 use Rattle.paged_list.proofs.Behind.{Given, Thing, width}

@@ -1,4 +1,4 @@
--- A list as it lies in its slots: its items from the first slot on, and behind them empty slots.
+-- The layout of a list in slots: its items in the first slots, and empty slots after them.
 use Rattle.std.proofs.Common.{◌≡◌, ℕ, zero, suc, ◌+◌, ◌-◌, ◌^◌, ◌<◌, ◌≤◌, List, [], ◌∷◌, ◌++◌, Option, Some, None, length, get_or, replicate, set, refl, sym, ap, ◌∙◌, arith, inl, inr, lit<}
 use Rattle.std.specs.List.{slice_get}
 use Rattle.std.proofs.lemmas.List.{length-replicate, replicate-append-replicate}
@@ -93,7 +93,7 @@ module _ {X : Type 0} where
       | inr past ↦ let le = past.0 in absurd (omega (arith, le, lt))
     ]
 
-    -- an item that a call names
+    -- the item that a call names
     module _ (old : Paged X) (is : paged items (length slots) ≡ old) (i : ℕ) (named : i < length old.items) where
       lt : i < length items
       lt = let same = ap (λ a. length a.items) is in omega (arith, same, named)
@@ -140,7 +140,7 @@ module _ {X : Type 0} where
           let shown = values_are new (items ++ x ∷ []) rest pushed_is in let long = pushed_long in
           (λ t. paged (shown t) (long t)) ∙ ap (λ a. paged (a.items ++ x ∷ []) a.capacity) is
 
-    -- the last item is taken out
+    -- the last item is removed
     module _ (some : 0 < len) where
       last : (ys : List X) × (x : X) × (items ≡ ys ++ x ∷ [])
       last = let count = h.count in split_last items (omega (arith, some, count))
@@ -172,7 +172,7 @@ module _ {X : Type 0} where
             let same : last.1 ≡ x = ap (λ o. unwrap_or o x) (sym last_is ∙ read) in let shown = values_are new last.0 (suc left) popped_is in
             last.2 ∙ (λ t. sym shown t ++ same t ∷ [])
 
-    -- there are more slots
+    -- slots are added
     module _ (count : ℕ) (new : List (Option X)) (wrote : new ≡ slots ++ replicate count None) where
       longer_is : new ≡ laid items (left + count)
       longer_is = wrote ∙ ap (λ s. s ++ replicate count None) (sym h.ordered) ∙ laid-longer items left count

@@ -1,4 +1,4 @@
--- Pages of which each has twice as many slots as the one before it, and their slots in a row.
+-- Pages of slots, each with twice as many as the one before, and the row of their slots.
 use Rattle.std.proofs.Common.{◌≡◌, ℕ, zero, suc, ◌+◌, ◌-◌, ◌*◌, ◌%◌, ◌/◌, ◌^◌, ◌<◌, ◌≤◌, List, [], ◌∷◌, ◌++◌, Option, Some, None, length, get_or, replicate, set, sym, ap, ◌∙◌, arith, inl, inr, lit<}
 use Rattle.std.specs.Int.{bit_at}
 use Rattle.std.specs.Int.Bits.{bit_or, bit_xor, or_zero_r, xor_add_and}
@@ -31,7 +31,7 @@ cleared n top le lt =
 twice : (s i : ℕ) → s * 2 ^ suc i ≡ s * 2 * 2 ^ i
 twice s i = let more = pow-suc 2 i in omega (arith, ap (λ k. s * k) more)
 
--- a slot of a later page stands behind the first page
+-- a slot of a later page comes after the first page
 behind : (s n k place : ℕ) → s * 2 ^ suc k + place ≡ n + s → s ≤ n
 behind s n k place at = let one = mul-le-mul_left s (pow_pos k) in omega (arith, at, one, twice s k)
 
@@ -39,7 +39,7 @@ moved : (s n k place : ℕ) → s * 2 ^ suc k + place ≡ n + s → s * 2 * 2 ^ 
 moved s n k place at = omega (arith, at, twice s k, behind s n k place at)
 
 module _ {X : Type 0} where
-  -- as AllDouble, where the first page has s slots
+  -- as AllDouble, for a first page of s slots
   abbrev Doubles : ℕ → List (List (Option X)) → Type 0
   Doubles s pages = (i : ℕ) → i < length pages → length (get_or pages i []) ≡ s * 2 ^ i
 
@@ -89,7 +89,7 @@ module _ {X : Type 0} where
   row-append [] page = append-nil page
   row-append (first ∷ pages) page = ap (λ rest. first ++ rest) (row-append pages page) ∙ sym (append_assoc first (row pages) page)
 
-  -- one page more, with no value
+  -- a page without values is added
   pub row-grown : (pages : List (List (Option X))) (count : ℕ) → row (pages ++ replicate count None ∷ []) ≡ row pages ++ replicate count None
   row-grown pages count = row-append pages (replicate count None)
 
@@ -119,7 +119,7 @@ module _ {X : Type 0} where
     pub place_within : place < length (get_or pages page [])
     place_within = rw (all page page_within) at.1
 
-    -- the page that a slot is in, as a call lends it, and what a write to it makes of the pages
+    -- the page of a slot as a call lends it, and the effect of a write to it on the pages
     pub page_is : (lent : List (Option X)) → lent ≡ get_or pages page lent → lent ≡ get_or pages page []
     page_is lent is = is ∙ get_or_default pages page lent [] page_within
 
@@ -140,7 +140,7 @@ module _ {X : Type 0} where
         | inr (_, ne) ↦ ap length (get_or-set_other pages page i new [] ne) ∙ all i (omega (arith, length-set pages page new))
       ]
 
-  -- what a call knows of the slot n of a row of slots
+  -- facts about the slot n of a row of slots
   module _ (pages : List (List (Option X))) (h : ArePages pages) (slots : List (Option X)) (is : row pages ≡ slots) (n : ℕ) (lt : n < length slots) where
     in_row : n < length (row pages)
     in_row = let same = ap length is in omega (arith, same, lt)
@@ -169,7 +169,7 @@ module _ {X : Type 0} where
           pub row_written : row (set pages page new) ≡ set slots n c
           row_written = row-changed pages h.double n page place at in_row lent new c e wrote ∙ ap (λ s. set s n c) is
 
-  -- one page more
+  -- a page is added
   pub pages_grown : (pages : List (List (Option X))) (h : ArePages pages) (count : ℕ) → count ≡ 2 ^ length pages → length pages < 32 → ArePages (pages ++ replicate count None ∷ [])
   pages_grown pages h count is lt = record {
     double = double-grown pages count is h.double;
@@ -182,7 +182,7 @@ module _ {X : Type 0} where
       let long = length-row pages h.double in let same = ap length is in let all : count ≡ length slots + 1 = omega (arith, long, same, many) in
       row-grown pages count ∙ ap (λ s. s ++ replicate count None) is ∙ ap (λ k. slots ++ replicate k None) all
 
--- the same of a slot that holds a value
+-- the same for a slot that holds a value
 module _ {X : Type 0} (pages : List (List (Option X))) (h : ArePages pages) (slots : List (Option X)) (is : row pages ≡ slots) (n : ℕ) (filled : IsFilled slots n) where
   pub filled_within : n < length slots
   filled_within = within slots n filled.0 filled.1

@@ -1,4 +1,4 @@
--- One slot is taken out of a row of slots, and another put in its place. Assumes `Logic`.
+-- Removal of one slot from a row of slots, and insertion of another in its place. Assumes `Logic`.
 use Rattle.paged_list.proofs.Steps.{◌≡◌, ℕ, zero, suc, ◌+◌, ◌*◌, ◌<◌, ◌≤◌, ◌^◌, List, [], ◌∷◌, length, get_or, set, Option, Some, None, refl, sym, arith, zero-mul, suc-mul, mul-le-mul_right, Ura, Fml, Lft, ftrue, fsep, ent, sep, ‵, ◌⊛◌, ◌$◌, ◌∵◌, !, qed, done, drop, keep, move, rewrite, split, fsplit, fjoin, use1, use2, Logic, sem}
 use Rattle.paged_list.specs.Slots.{in_a_row, seen_in_a_row}
 
@@ -17,7 +17,7 @@ within (c ∷ cs) zero x e = omega arith
 within (c ∷ cs) (suc i) x e = let shorter = within cs i x e in omega (arith, shorter)
 
 module _ {X : Type 0} (s : ℕ) (slot : Option X → ℕ → Fml) where
-  -- the row, but for the slot at the index
+  -- the row without the slot at the index
   abbrev pub but_one : ℕ → List (Option X) → ℕ → Fml
   but_one i [] n = ftrue
   but_one zero (c ∷ cs) n = in_a_row s slot cs (n + s)
@@ -45,7 +45,7 @@ module _ {X : Type 0} (s : ℕ) (slot : Option X → ℕ → Fml) where
         move ! (1 ∷ 0 ∷ []) $ fjoin ! $ done !
 
 module _ {X : Type 0} (s : ℕ) (seen : Option X → ℕ → Lft → Fml) (κ : Lft) {M : Type 1} {𝓤 : Ura M} (𝓛 : Logic 𝓤) where
-  -- of a row that is shown, the slot at the index is shown
+  -- if a row is shown, so is the slot at the index
   pub look_up : (i : ℕ) (cs : List (Option X)) (n : ℕ) → i < length cs → ent 𝓤 (sem 𝓛 (seen_in_a_row s seen cs n κ)) (sem 𝓛 (seen (get_or cs i None) (i * s + n) κ))
   look_up i [] n lt = absurd (omega arith)
   look_up zero (c ∷ cs) n lt = qed 𝓛 (‵ (seen_in_a_row s seen (c ∷ cs) n κ) ∷ []) ∵ fsplit ! $ rewrite ! 0 (λ (k : ℕ). ‵ (seen c k κ)) (first_place s n) refl $ keep ! (0 ∷ []) $ done !

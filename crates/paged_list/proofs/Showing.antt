@@ -16,7 +16,7 @@ use mir.Raw.{raw}
 use denote.Memory.{lone}
 use Rattle.paged_list.specs.Slots.{in_a_row, seen_in_a_row, slot_owned, slot_seen, few_bytes, block_owned, block_seen}
 
--- a row, from what holds of each of its items
+-- a row, from a fact about each of its items
 module _ {X : Type 0} (s : ℕ) (seen : X → ℕ → Lft → Fml) where
   row_shows : ((x : X) (n : ℕ) → ShrLaws (seen x n)) → (xs : List X) (n : ℕ) → ShrLaws (seen_in_a_row s seen xs n)
   row_shows each [] n = nothing_shr_laws

@@ -1,8 +1,8 @@
--- What a contract sees of a list in pages, and how it lies in its slots.
+-- The value of a list in pages in a contract, and its layout in slots.
 use Rattle.std.specs.Prelude.{◌≡◌, ℕ, ◌-◌, ◌^◌, ◌<◌, List, [], ◌∷◌, Option, Some, None, length, replicate, refl}
 use Rattle.std.specs.Coded.{Coded, code_by, coded×, coded_list, coded_ℕ}
 
--- the items, and how many there is room for
+-- the items, and the number of items for which there is room
 pub record Paged (X : Type 0) : Type 0 where
   pub items : List X
   pub capacity : ℕ
@@ -20,12 +20,12 @@ module _ {X : Type 0} where
   values (None ∷ slots) = values slots
   values (Some x ∷ slots) = x ∷ values slots
 
-  -- the items one after another from the first slot on, and then n empty slots
+  -- the items in the first slots, followed by n empty slots
   abbrev pub laid : List X → ℕ → List (Option X)
   laid [] n = replicate n None
   laid (x ∷ items) n = Some x ∷ laid items n
 
-  -- no empty slot lies in front of a value, and len of the slots hold one
+  -- no empty slot is in front of a value, and `len` slots hold a value
   pub record IsLaid (slots : List (Option X)) (len : ℕ) : Type 0 where
     pub count : length (values slots) ≡ len
     pub ordered : laid (values slots) (length slots - len) ≡ slots

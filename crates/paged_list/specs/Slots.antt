@@ -1,4 +1,4 @@
--- Slots side by side in raw memory, each empty or holding a value: what they own, and what a `&` to them shows.
+-- Adjacent slots in raw memory, each empty or with a value: what they own, and what a `&` to them shows.
 use Rattle.std.specs.Prelude.{◌≡◌, ℕ, ◌+◌, ◌*◌, ◌^◌, List, [], ◌∷◌, length, get_or, Option, Some, None}
 use Rattle.std.specs.Mem.{type_size}
 use base.Fraction.{full_share}
@@ -14,7 +14,7 @@ use denote.Sharing.{beside, nothing, said}
 abbrev pub IsFilled : {X : Type 0} → List (Option X) → ℕ → Type 0
 IsFilled {X} cs i = (x : X) × (get_or cs i None ≡ Some x)
 
--- F of each item and of its place: the first lies at the place n, and each of the others s places after the one before
+-- F of each item and its place: the first item is at the place n, each further one s places after the one before
 module _ {X : Type 0} (s : ℕ) (F : X → ℕ → Fml) where
   abbrev pub in_a_row : List X → ℕ → Fml
   in_a_row [] n = ftrue

@@ -1,5 +1,5 @@
-//! A block of raw memory that is cut into slots, each with room for one value. Which slots hold one is known to proofs
-//! alone: a slot has no tag. Only the functions of this file hold a raw pointer.
+//! A block of raw memory, cut into slots with room for one value each. Only proofs know which slots hold a value: a slot has no tag. Raw
+//! pointers occur in this file only.
 ghost use Rattle.std.specs.Prelude.{◌≡◌, ℕ, ◌<◌, List, Option, Some, None, length, replicate, get_or, slice_set, IfOk};
 ghost use Rattle.std.specs.Borrow.{sem};
 ghost use Rattle.std.specs.Vec.Ownership.{FitsInBlock};
@@ -9,7 +9,7 @@ use std::alloc::{AllocError, Allocator};
 use std::marker::{Model, PhantomData};
 use std::mem::{align_of, size_of};
 
-/// The slots from `start` on, with what they hold, and the right to give the block back to its allocator.
+/// The slots from `start` on with their content, and the right to return the block to its allocator.
 pub struct Block<T, A: Allocator> {
     start: *mut T,
     lender: PhantomData<A>,
@@ -26,7 +26,7 @@ impl<T, A: Allocator> Model for Block<T, A> {
 impl<T, A: Allocator> Block<T, A> {
     ghost use Rattle.paged_list.specs.SlotLends.{lends_slot};
 
-    /// A block of `count` empty slots.
+    /// Allocates a block of `count` empty slots.
     pub(crate) fn new(alloc: &A, count: usize) -> Result<Block<T, A>, AllocError>
         requires some { 0 < count }
         requires room { FitsInBlock T.row count }
@@ -41,7 +41,7 @@ impl<T, A: Allocator> Block<T, A> {
         }
     }
 
-    /// Gives the block back. Values that still lie there are forgotten.
+    /// Returns the block to its allocator. Values that are still in it are forgotten.
     pub(crate) fn free(self, alloc: &A, count: usize)
         requires some { 0 < count }
         requires whole { (self.from ≡ alloc.now) × (length self.holds ≡ count) }
@@ -60,7 +60,7 @@ impl<T, A: Allocator> Block<T, A> {
         unsafe { self.start.add(index).write(item) }
     }
 
-    /// Moves the value of a slot out, and leaves the slot empty.
+    /// Moves the value out of a slot, which is empty afterwards.
     pub(crate) fn empty(&mut self, index: usize) -> T
         requires { IsFilled self.old.holds index }
         ensures value { get_or self.old.holds index None ≡ Some result }
@@ -69,7 +69,7 @@ impl<T, A: Allocator> Block<T, A> {
         unsafe { self.start.add(index).read() }
     }
 
-    /// The value of a slot.
+    /// Returns the value of a slot.
     pub(crate) fn get(&self, index: usize) -> &T
         requires { IsFilled self.now.holds index }
         ensures { get_or self.now.holds index None ≡ Some result.now }
@@ -77,7 +77,7 @@ impl<T, A: Allocator> Block<T, A> {
         unsafe { &*self.start.add(index) }
     }
 
-    /// The value of a slot, to write to.
+    /// Returns the value of a slot for writing.
     pub(crate) fn get_mut(&mut self, index: usize) -> &mut T
         requires { IsFilled self.old.holds index }
         ensures* writes_back { sem 𝓛 (lends_slot T.row A.row A.Allocator self.entry index result) }

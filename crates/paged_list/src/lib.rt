@@ -1,4 +1,4 @@
-//! A list in pages of raw memory, of which no item is ever moved.
+//! A list in pages of raw memory. Its items are never moved.
 #![tactic(auto)]
 
 mod block;
@@ -7,7 +7,7 @@ mod page;
 mod slots;
 
 pub use list::PagedList;
-// A crate can name a list in a contract only if the types of its fields are exported.
+// A contract in another crate can name a list only if the types of its fields are exported.
 #[doc(hidden)]
 pub use block::Block;
 #[doc(hidden)]

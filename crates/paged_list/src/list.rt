@@ -1,4 +1,4 @@
-//! A list in pages, as safe code over a row of slots.
+//! A list in pages, in safe code over a row of slots.
 ghost use Rattle.std.specs.Prelude.{◌≡◌, ◌+◌, ◌^◌, ◌<◌, ◌≤◌, [], ◌∷◌, ◌++◌, ◌↔◌, Some, length, slice_set, IsSome, OnOk, OnErr};
 ghost use Rattle.std.specs.Borrow.{sem};
 ghost use Rattle.std.specs.List.{slice_get};
@@ -9,11 +9,10 @@ use crate::slots::Slots;
 use std::alloc::{AllocError, Global};
 use std::marker::Model;
 
-/// A list of fewer than 2^32 items in pages of raw memory, which go back to the allocator at its end. No item is ever
-/// moved: to make room is to ask the allocator for pages, whatever is there. Only `reserve` takes memory. The items go with
-/// the list, the last one first.
+/// A list of fewer than 2^32 items in pages of raw memory. Items are never moved: making room only allocates further pages. Only
+/// `reserve` allocates. Dropping the list drops the items, the last one first, and returns the pages to the allocator.
 ///
-/// A contract sees the items, and how many there is room for.
+/// A contract sees the items and the capacity.
 pub struct PagedList<T> {
     slots: Slots<T>,
     len: usize,
@@ -45,7 +44,7 @@ impl<T: Drop> Drop for PagedList<T> {
 impl<T> PagedList<T> {
     ghost use Rattle.paged_list.specs.ItemLends.{lends_item};
 
-    /// A list with no item and no room.
+    /// Makes an empty list without room for items.
     pub fn new(alloc: Global) -> PagedList<T>
         ensures { result ≡ paged [] 0 }
     {
@@ -63,7 +62,7 @@ impl<T> PagedList<T> {
         self.len
     }
 
-    /// How many items there is room for, counted with those that are there.
+    /// Returns the number of items for which there is room, the present ones included.
     pub fn capacity(&self) -> usize
         ensures value { result ≡ self.now.capacity }
         ensures few { result < 2 ^ 32 }
@@ -71,7 +70,7 @@ impl<T> PagedList<T> {
         self.slots.len()
     }
 
-    /// Makes room for `additional` items more. It fails where memory is short, or there would be room for 2^32 items.
+    /// Makes room for `additional` more items. Fails if memory is short, or if room for 2^32 or more items would be needed.
     pub fn reserve(&mut self, additional: usize) -> Result<(), AllocError>
         ensures items { self.new.items ≡ self.old.items }
         ensures room { OnOk result (length self.old.items + additional ≤ self.new.capacity) }
@@ -83,7 +82,7 @@ impl<T> PagedList<T> {
         Ok(())
     }
 
-    /// One page more.
+    /// Adds a page.
     fn grow(&mut self) -> Result<(), AllocError>
         ensures items { self.new.items ≡ self.old.items }
         ensures room { OnOk result (self.old.capacity < self.new.capacity) }
@@ -93,7 +92,7 @@ impl<T> PagedList<T> {
         Ok(())
     }
 
-    /// Puts an item last.
+    /// Appends an item.
     pub fn push(&mut self, item: T)
         requires { length self.old.items < self.old.capacity }
         ensures { self.new ≡ paged (self.old.items ++ item ∷ []) self.old.capacity }
@@ -102,7 +101,7 @@ impl<T> PagedList<T> {
         self.len += 1;
     }
 
-    /// Takes the last item out.
+    /// Removes the last item and returns it; None if the list is empty.
     pub fn pop(&mut self) -> Option<T>
         ensures items { self.old.items ≡ self.new.items ++ option_to_list result }
         ensures variant { IsSome result ↔ (0 < length self.old.items) }
@@ -132,7 +131,7 @@ impl<T> PagedList<T> {
 }
 
 impl<T: Drop> PagedList<T> {
-    /// Puts an item in the place of another, which goes.
+    /// Replaces the item at `index`. The old item is dropped.
     pub fn set(&mut self, index: usize, item: T)
         requires { index < length self.old.items }
         ensures { self.new ≡ paged (slice_set self.old.items index item) self.old.capacity }

@@ -1,4 +1,4 @@
-//! A page: a block of slots, as a list.
+//! A page: a block of slots as a list.
 ghost use Rattle.std.specs.Prelude.{◌≡◌, ◌<◌, List, Option, Some, None, length, replicate, get_or, slice_set, IfOk};
 ghost use Rattle.std.specs.Borrow.{sem};
 ghost use Rattle.paged_list.specs.Slots.{IsFilled};
@@ -8,7 +8,7 @@ use std::alloc::{AllocError, Global};
 use std::marker::Model;
 use std_alloc::room::may_hold;
 
-/// Slots that go back to their allocator at the page's end.
+/// A block of slots that is returned to its allocator when the page is dropped.
 pub struct Page<T> {
     block: Block<T, Global>,
     count: usize,
@@ -42,7 +42,7 @@ impl<T> Drop for Page<T> {
 impl<T> Page<T> {
     ghost use Rattle.paged_list.specs.PageLends.{page_lends};
 
-    /// A page of `count` empty slots.
+    /// Allocates a page of `count` empty slots.
     pub(crate) fn new(alloc: Global, count: usize) -> Result<Page<T>, AllocError>
         requires { 0 < count }
         ensures { IfOk result (λ p. p ≡ replicate count None) }

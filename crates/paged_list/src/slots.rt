@@ -1,5 +1,5 @@
-//! Slots in a row: pages of which each has twice as many as the one before it. The first has one, so the highest bit of
-//! one more than a slot's number tells its page, and the other bits its place there.
+//! A row of slots in pages. The first page has one slot, each further page twice as many as the one before. So the highest bit of a
+//! slot's number plus one gives the page, and the lower bits the place in it.
 ghost use Rattle.std.specs.Prelude.{◌≡◌, ◌+◌, ◌^◌, ◌<◌, [], ◌++◌, Option, Some, None, length, replicate, get_or, slice_set, OnOk, OnErr};
 ghost use Rattle.std.specs.Borrow.{sem};
 ghost use Rattle.paged_list.specs.Slots.{IsFilled};
@@ -9,10 +9,10 @@ use crate::page::Page;
 use std::alloc::{AllocError, Global};
 use std::marker::Model;
 
-/// At most so many pages, so that one more than the number of each slot has 32 bits.
+/// Upper bound for the number of pages, so that the number of a slot plus one fits into 32 bits.
 const MOST_PAGES: usize = 32;
 
-/// Slots, each empty or holding a value. A page stays where it is from its making to the row's end.
+/// A row of slots, each empty or with a value. Pages are never moved and are freed only with the row.
 #[derive(Drop)]
 pub struct Slots<T> {
     pages: Vec<Page<T>>,
@@ -33,20 +33,20 @@ impl<T> Model for Slots<T> {
     ghost invariant = { λ s. ArePages s.pages.items };
 }
 
-/// A page, and a place in it.
+/// A page, and a place in that page.
 #[derive(Clone, Copy)]
 struct Spot {
     page: usize,
     place: usize,
 }
 
-/// Where the slot of that number lies.
+/// Returns the page and the place of the slot `index`.
 fn spot_of(index: usize) -> Spot
     requires { index + 1 < 2 ^ 32 }
     ensures { IsSpot index result.page result.place }
 {
     let number = index as u32 + 1;
-    // The lowest bit tells the compiler that the number is not 0, for which it would make code of its own.
+    // Setting the lowest bit shows the compiler that the number is not 0, for which it would otherwise add code.
     let page = (number | 1).ilog2();
     Spot {
         page: page as usize,
@@ -73,7 +73,7 @@ impl<T> Slots<T> {
         (1 << self.pages.len()) - 1
     }
 
-    /// One page more, of empty slots. It fails where memory is short, or there would be 2^32 slots.
+    /// Adds a page of empty slots. Fails if memory is short, or if there would be 2^32 slots or more.
     pub(crate) fn grow(&mut self) -> Result<(), AllocError>
         ensures slots { OnOk result (self.new ≡ self.old ++ replicate (length self.old + 1) None) }
         ensures kept { OnErr result (self.new ≡ self.old) }

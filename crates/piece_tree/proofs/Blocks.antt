@@ -1,4 +1,4 @@
--- Some elements at the front of a block, of which a part gives way to others.
+-- A part of the elements at the front of a block is replaced by others.
 use Rattle.std.proofs.Common.{◌≡◌, ℕ, ◌+◌, ◌-◌, ◌≤◌, List, ◌++◌, length, take, drop, sym, ap, ◌∙◌, arith, append_assoc}
 use Rattle.std.specs.List.{copy_within}
 use Rattle.std.proofs.lemmas.List.{take-append-drop, take-take, drop-take, take_at, drop_at, length-take-le, length-drop}
@@ -13,7 +13,7 @@ take-add n m xs =
 
 module _ {X : Type 0} (from to count : ℕ) (block with : List X) (ordered : from ≤ to) (within : to ≤ count) (few : count ≤ length block)
     (fits : from + length with + (count - to) ≤ length block) where
-  -- those behind the part, moved to where they go
+  -- the block after the elements behind the part are moved
   abbrev moved : List X
   moved = copy_within block to count (from + length with)
 

@@ -1,4 +1,4 @@
--- Look-ups one after another, and what one costs in numbers.
+-- The cost of consecutive look-ups, with examples in numbers.
 use Rattle.std.proofs.Common.{◌≡◌, ℕ, ◌+◌, ◌-◌, ◌*◌, ◌≤◌, ◌^◌, sym, ap, subst, arith, lit≤, lit<}
 use Rattle.std.proofs.Math.Nat.{pow-le-pow_right, one-le-pow, mul-le-mul}
 use Rattle.std.proofs.lemmas.Nat.{pow-add}
@@ -14,18 +14,18 @@ six_nodes_of_seven_pieces = (lit≤ tt, λ more. absurd (omega (arith, more)))
 nineteen_nodes_of_a_thousand_pieces : WithinLookUps 1 1000 19 × ¬ WithinLookUps 1 1000 20
 nineteen_nodes_of_a_thousand_pieces = (lit≤ tt, λ more. absurd (omega (arith, more)))
 
--- where no node was visited
+-- no node was visited
 pub no_look_up : (look_ups pieces from to : ℕ) → from ≡ to → WithinLookUps look_ups pieces (to - from)
 no_look_up look_ups pieces from to same =
     let none : to - from ≡ 0 = omega arith in
     subst (WithinLookUps look_ups pieces) (sym none) (one-le-pow (2 * look_ups) (pieces + 1) (omega arith))
 
--- look-ups that were not made
+-- a bound for fewer look-ups holds for more
 pub fewer_look_ups : (few many pieces nodes : ℕ) → few ≤ many → WithinLookUps few pieces nodes → WithinLookUps many pieces nodes
 fewer_look_ups few many pieces nodes fewer cost =
     let up = pow-le-pow_right {n = pieces + 1} (omega arith) {i = 2 * few} {j = 2 * many} (omega arith) in omega (arith, cost, up)
 
--- look-ups after others
+-- the bounds of consecutive look-ups add up
 pub look_ups-add : (first second pieces from between to : ℕ) → WithinLookUps first pieces (between - from) → WithinLookUps second pieces (to - between)
     → WithinLookUps (first + second) pieces (to - from)
 look_ups-add first second pieces from between to one other =

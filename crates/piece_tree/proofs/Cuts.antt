@@ -1,4 +1,4 @@
--- Cutting a list of pieces, and what the parts have.
+-- Cutting a list of pieces, and the sums of the parts.
 use Rattle.std.proofs.Common.{◌≡◌, ℕ, ◌+◌, ◌-◌, ◌<◌, ◌≤◌, Option, List, [], ◌∷◌, ◌++◌, length, drop, refl, ap, sym, subst, ◌∙◌, inl, inr, zero-add, arith}
 use Rattle.std.specs.List.{All}
 use Rattle.std.specs.Option.{ForSome}
@@ -119,7 +119,7 @@ module _ (b : List (List ℕ)) where
   pub pieces_few : (ps : List Piece) → All (IsPieceOf b) ps → All few_breaks ps
   pieces_few ps all = All-weaker (IsPieceOf b) few_breaks piece_few ps all
 
-  -- where something is left, what stands behind the pieces is left too
+  -- if some of the pieces are left, all pieces behind them are left
   pub back_some : (n : ℕ) (ps qs : List Piece) → 0 < length (back b n ps) → back b n (ps ++ qs) ≡ back b n ps ++ qs
   back_some n [] qs some = absurd (omega (arith, some))
   back_some n (p ∷ ps) qs some = elim (cases_lt n p.span.units) [
@@ -133,7 +133,7 @@ module _ (b : List (List ℕ)) where
     ]
   ]
 
-  -- where nothing is left, the other units go from what stands behind the pieces
+  -- if none of the pieces are left, the remaining units are removed from those behind
   pub back_all : (n : ℕ) (ps qs : List Piece) → back b n ps ≡ [] → back b n (ps ++ qs) ≡ back b (n - unit_count ps) qs
   back_all n [] qs none = let same : n ≡ n - unit_count [] = omega arith in ap (λ k. back b k qs) same
   back_all n (p ∷ ps) qs none = elim (cases_lt n p.span.units) [

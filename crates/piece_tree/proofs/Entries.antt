@@ -1,11 +1,17 @@
--- How the entries of a text lie in its runs.
+-- The entries of a text, by its runs.
 use Rattle.std.proofs.Common.{◌≡◌, ℕ, suc, ◌+◌, List, [], ◌∷◌, ◌++◌, length, refl, ap, sym, ◌∙◌, append_assoc, ◌⊎◌, inl, inr, arith}
+use Rattle.std.specs.List.{sum_by}
 use Rattle.std.proofs.lemmas.List.{map-append}
+use Rattle.std.proofs.lemmas.List.Concat.{flat_map-append}
+use Rattle.std.proofs.lemmas.List.Sums.{sum_by-append}
 use Rattle.rb_arena.specs.RbTree.{SplitsAt}
 use Rattle.piece_tree.specs.declared.piece.Piece.{Piece}
 use Rattle.piece_tree.specs.declared.piece.PieceId.{PieceId}
-use Rattle.piece_tree.specs.Pieces.{Entry, pieces_of}
+use Rattle.piece_tree.specs.Pieces.{Entry, pieces_of, unit_count}
 use Rattle.piece_tree.specs.Runs.{name_of, entry_at, pieces_in, entries_of, entries_from}
+
+abbrev pub Runs : Type 0
+Runs = List (ℕ × List Piece)
 
 pub pieces_from : (run place : ℕ) (ps : List Piece) → pieces_of (entries_from run place ps) ≡ ps
 pieces_from run place [] = refl
@@ -31,8 +37,17 @@ from-append run place (p ∷ ps) qs =
     (from-append run (suc place) ps qs ∙ ap (λ k. entries_from run (suc place) ps ++ entries_from run k qs) more)
 
 pub in-append : (us vs : List (ℕ × List Piece)) → pieces_in (us ++ vs) ≡ pieces_in us ++ pieces_in vs
-in-append [] vs = refl
-in-append (u ∷ us) vs = ap (λ ps. u.1 ++ ps) (in-append us vs) ∙ sym (append_assoc u.1 (pieces_in us) (pieces_in vs))
+in-append us vs = flat_map-append (λ (r : ℕ × List Piece). r.1) us vs
+
+-- the pieces before a run, those of it, and those behind it
+pub sum-at : (f : Piece → ℕ) (us : List (ℕ × List Piece)) (id : ℕ) (x : List Piece) (vs : List (ℕ × List Piece))
+    → sum_by f (pieces_in (us ++ (id, x) ∷ vs)) ≡ sum_by f (pieces_in us) + (sum_by f x + sum_by f (pieces_in vs))
+sum-at f us id x vs =
+    ap (sum_by f) (in-append us ((id, x) ∷ vs)) ∙ sum_by-append f (pieces_in us) (x ++ pieces_in vs) ∙ ap (λ n. sum_by f (pieces_in us) + n) (sum_by-append f x (pieces_in vs))
+
+pub units-at : (us : List (ℕ × List Piece)) (id : ℕ) (x : List Piece) (vs : List (ℕ × List Piece))
+    → unit_count (pieces_in (us ++ (id, x) ∷ vs)) ≡ unit_count (pieces_in us) + (unit_count x + unit_count (pieces_in vs))
+units-at us id x vs = sum-at (λ (p : Piece). p.span.units) us id x vs
 
 -- an entry of a run and of others is one of the run, or of the others
 record LiesIn (run place : ℕ) (x : List Piece) (rest earlier later : List Entry) (e : Entry) : Type 0 where
@@ -124,7 +139,7 @@ split_entries (r ∷ rs) earlier later e h = elim (split_from r.0 0 r.1 (entries
       ))
 ]
 
--- where an entry of a run stands
+-- the position of an entry of a run
 pub entries-at : (us : List (ℕ × List Piece)) (run : ℕ) (ps : List Piece) (p : Piece) (qs : List Piece) (vs : List (ℕ × List Piece))
     → entries_of (us ++ (run, ps ++ p ∷ qs) ∷ vs) ≡ (entries_of us ++ entries_from run 0 ps) ++ entry_at (name_of run (length ps)) p ∷ (entries_from run (suc (length ps)) qs ++ entries_of vs)
 entries-at us run ps p qs vs =

@@ -1,4 +1,4 @@
--- The piece of a run that has what is sought.
+-- The piece of a run that contains the target.
 use Rattle.std.proofs.Common.{◌≡◌, ℕ, suc, ◌+◌, ◌≤◌, ◌<◌, ◌^◌, true, false, nat_lt, List, ◌++◌, length, get_or, take, drop, ap, sym, ◌∙◌, subst, drop-cons, arith}
 use Rattle.std.proofs.lemmas.Bool.{ltb-true, ltb-false}
 use Rattle.std.proofs.lemmas.List.{take-append-drop, length-take, take_all}
@@ -13,17 +13,13 @@ use Rattle.piece_tree.specs.Pieces.{unit_count, break_count_of}
 use Rattle.piece_tree.specs.Searches.{counted, count_of, number_of, own_of, HasNumber}
 use Rattle.piece_tree.specs.Runs.{name_of, found_in, CanFindIn, IsFoundIn}
 
--- the sum of some pieces and those behind them
-abbrev pub sum_past : PieceSum → List Piece → PieceSum
-sum_past before ps = record { units = before.units + unit_count ps; breaks = before.breaks + break_count_of ps }
-
--- a search has come past so many pieces of the run
+-- a search is past the first `i` pieces of the run
 pub record IsPast (pieces : List Piece) (before : PieceSum) (sought : Sought) (i : ℕ) (sum : PieceSum) : Type 0 where
   pub units : sum.units ≡ before.units + unit_count (take i pieces)
   pub breaks : sum.breaks ≡ before.breaks + break_count_of (take i pieces)
   pub low : counted sought sum ≤ number_of sought
 
--- what a piece adds
+-- the count with one more piece
 counted_with : (sought : Sought) (sum behind : PieceSum) (id : PieceId) (p : Piece) → behind.units ≡ sum.units + p.span.units → behind.breaks ≡ sum.breaks + p.breaks
     → counted sought behind ≡ counted sought sum + own_of sought (found_in id p sum)
 counted_with (Offset offset) sum behind id p units breaks = units

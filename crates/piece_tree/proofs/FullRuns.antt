@@ -11,7 +11,7 @@ use Rattle.piece_tree.specs.Runs.{Runs}
 use Rattle.piece_tree.specs.Stored.{IsStored, AreStored, stored_in, runs_of, pieces_at}
 use Rattle.piece_tree.proofs.Storing.{pieces_there}
 
-abbrev IsFull : ℕ × List Piece → Type 0
+abbrev pub IsFull : ℕ × List Piece → Type 0
 IsFull r = 0 < length r.1
 
 full_in : (stored : Nodes Run) (items : List (ℕ × StoredRun)) → All (IsStored stored) items → All IsFull (stored_in stored items)

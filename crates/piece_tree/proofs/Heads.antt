@@ -11,25 +11,25 @@ use Rattle.piece_tree.specs.Splicing.{HeadsRest}
 use Rattle.piece_tree.proofs.Sums.{units-cons}
 use Rattle.piece_tree.proofs.Prolonged.{followed_on, followed_apart}
 
--- it stands right behind the entries before
+-- the head stands right after the entries before
 heads_place : (us : List Entry) (ps : List Piece) (id : PieceId) (x : Piece) (new : List Entry) → HeadsRest us ps (Some (id, x)) new
     → (ws : List Entry) × (new ≡ us ++ entry_at id x ∷ ws)
 heads_place us [] id x new none = absurd cc
 heads_place us (p ∷ ps) id x new (name, (ws, told, place)) =
     let same : ◌≡◌ {A = PieceId × Piece} (name, p) (id, x) = cc in (ws, place ∙ ap (λ (at : PieceId × Piece). us ++ entry_at at.0 at.1 ∷ ws) same)
 
--- it is the first of the pieces
+-- the head is the first of the pieces
 heads_first : (us : List Entry) (p : Piece) (ps : List Piece) (id : PieceId) (x : Piece) (new : List Entry) → HeadsRest us (p ∷ ps) (Some (id, x)) new → x ≡ p
 heads_first us p ps id x new (name, (ws, told, place)) = let same : ◌≡◌ {A = PieceId × Piece} (id, x) (name, p) = cc in ap (λ (e : PieceId × Piece). e.1) same
 
--- so a look-up tells it
+-- so a look-up returns it
 pub heads_found : (us : List Entry) (ps : List Piece) (first : Option (PieceId × Piece)) (new : List Entry) (before : PieceSum) → before ≡ sum_of (pieces_of us)
     → HeadsRest us ps first new → IfSome (option_map (λ at. found_in at.0 at.1 before) first) (IsFound new)
 heads_found us ps None new before sum heads = tt
 heads_found us ps (Some at) new before sum heads =
     let (ws, place) = heads_place us ps at.0 at.1 new heads in record { earlier = us; later = ws; place = place; before = sum }
 
--- there is one where there are pieces
+-- there is a head if there are pieces
 heads_some : (us : List Entry) (p : Piece) (ps : List Piece) (new : List Entry) → HeadsRest us (p ∷ ps) None new → ⊥
 heads_some us p ps new (name, (ws, told, place)) = absurd cc
 
@@ -39,14 +39,14 @@ module _ (b : List (List ℕ)) where
   followed_head own span true goes = (piece_of b (prolonged own.span span), ([], followed_on b own span goes, omega arith))
   followed_head own span false goes = (own, (piece_of b span ∷ [], followed_apart b own span goes, omega arith))
 
-  -- what follows a piece begins with one that has its units
+  -- a piece followed by a span begins with a piece that has at least its units
   followed_by_head : (own : Piece) (span : Option ChunkSpan)
       → (p : Piece) × ((ps : List Piece) × (followed_by b (own ∷ []) span ≡ p ∷ ps) × (own.span.units ≤ p.span.units))
   followed_by_head own None = (own, ([], refl, omega arith))
   followed_by_head own (Some span) = followed_head own span (goes_on own.span span) refl
 
 module _ (b : List (List ℕ)) (us : List Entry) (ps : List Piece) (new : List Entry) where
-  -- the first of those that a splice puts has the units that stay before what comes
+  -- the first piece that a splice puts has at least the units of the rest on the left
   heads_units : (left : Option Piece) (span : Option ChunkSpan) (id : PieceId) (x : Piece) → HeadsRest us (followed_by b (listed left) span ++ ps) (Some (id, x)) new
       → unit_count (listed left) ≤ x.span.units
   heads_units None span id x heads = omega arith
@@ -55,7 +55,7 @@ module _ (b : List (List ℕ)) (us : List Entry) (ps : List Piece) (new : List E
       let first = heads_first us p (qs ++ ps) id x new (subst (λ rs. HeadsRest us (rs ++ ps) (Some (id, x)) new) e heads) in
       omega (arith, within, units-cons own [], ap (λ (q : Piece). q.span.units) first)
 
-  -- so it reaches the offset
+  -- so the first piece reaches the offset
   pub heads_near : (left : Option Piece) (span : Option ChunkSpan) (first : Option (PieceId × Piece)) (before : PieceSum) (offset : ℕ) → before ≡ sum_of (pieces_of us)
       → offset ≡ unit_count (pieces_of us) + unit_count (listed left) → HeadsRest us (followed_by b (listed left) span ++ ps) first new
       → IfSome (option_map (λ at. found_in at.0 at.1 before) first) (λ found. (found.before.units ≤ offset) × (offset ≤ found.before.units + found.span.units))
@@ -64,7 +64,7 @@ module _ (b : List (List ℕ)) (us : List Entry) (ps : List Piece) (new : List E
       let units = ap (λ (s : PieceSum). s.units) sum in
       let reach = heads_units left span at.0 at.1 heads in (omega (arith, units, begins), omega (arith, units, begins, reach))
 
-  -- and there is one where a piece comes
+  -- there is a first piece if a new piece is put
   pub heads_none : (left piece : Option Piece) (first : Option (PieceId × Piece)) (before : PieceSum) → option_map (λ at. found_in at.0 at.1 before) first ≡ None
       → HeadsRest us (followed_by b (listed left) (span_of piece) ++ ps) first new → piece ≡ None
   heads_none left piece (Some at) before none heads = absurd cc

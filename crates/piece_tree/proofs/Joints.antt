@@ -10,7 +10,6 @@ use Rattle.chunk_buffers.specs.Chunks.{part_of}
 use Rattle.piece_tree.specs.declared.piece.Piece.{Piece}
 use Rattle.piece_tree.specs.declared.piece.PieceId.{PieceId}
 use Rattle.piece_tree.specs.declared.piece.PieceSum.{PieceSum}
-use Rattle.piece_tree.specs.declared.piece.Found.{Found}
 use Rattle.piece_tree.specs.declared.cut.Cut.{Cut}
 use Rattle.piece_tree.specs.Pieces.{Entry, pieces_of, unit_count, sum_of, piece_of, listed, IsPieceOf, goes_on, goes_on_from, followed_by, front, back, spliced}
 use Rattle.piece_tree.specs.Runs.{entry_at, last_named}
@@ -32,12 +31,12 @@ units_up_to us ws id x last =
 pub sum_up_to : (us ws : List Entry) (id : PieceId) (x : Piece) → us ≡ ws ++ entry_at id x ∷ [] → sum_of (pieces_of us) ≡ sum_of (pieces_of ws ++ x ∷ [])
 sum_up_to us ws id x last = ap sum_of (pieces-split us ws id x [] last)
 
--- what holds of all pieces holds of it
+-- a property of all pieces holds for the piece of an entry
 pub all_here : (P : Piece → Type 0) (entries us : List Entry) (id : PieceId) (x : Piece) (vs : List Entry) → entries ≡ us ++ entry_at id x ∷ vs → All P (pieces_of entries) → P x
 all_here P entries us id x vs e all =
     All-head P x (pieces_of vs) (All-parts P (pieces_of us) (x ∷ pieces_of vs) (subst (All P) (pieces-split entries us id x vs e) all)).1
 
--- the entry before another, and what then stands behind it
+-- the entry before another, and the entries after it
 pub before_place : (entries us ws later : List Entry) (id : PieceId) (y : Piece) → entries ≡ us ++ later → us ≡ ws ++ entry_at id y ∷ [] → entries ≡ ws ++ entry_at id y ∷ later
 before_place entries us ws later id y e last = e ∙ ap (λ l. l ++ later) last ∙ append_assoc ws (entry_at id y ∷ []) later
 
@@ -55,10 +54,6 @@ joint_ends us (Some span) told at is joint = let both = subst (IsJoint us (Some 
 
 some_is : (first second : Piece) → ◌≡◌ {A = Option Piece} (Some first) (Some second) → first ≡ second
 some_is first second e = cc
-
--- where a looked-up piece stands
-abbrev pub piece_found : Found → Piece
-piece_found found = record { span = found.span; breaks = found.breaks }
 
 module _ (b : List (List ℕ)) where
   followed_by-last : (ps : List Piece) (p : Piece) (span : Option ChunkSpan) → followed_by b (ps ++ p ∷ []) span ≡ ps ++ followed_by b (p ∷ []) span
@@ -118,7 +113,7 @@ module _ (b : List (List ℕ)) where
           spliced = spliced_at own (Some left) count (ap (λ ps. followed_by b (pieces_of us ++ ps) span) own_front ∙ followed_by-last (pieces_of us) left span);
         }
 
-    -- a cut right before a piece, where the span goes on from none
+    -- a cut right before a piece, where the span does not go on from the pieces before
     pub cut_before : offset ≡ unit_count (pieces_of us) → 0 < x.span.units → ForSome span (λ s. goes_on_from (pieces_of us) s ≡ false)
         → IsCut b offset (offset + deleted) span entries (record { id = id; left = None; end = deleted; before = before })
     cut_before count some says =

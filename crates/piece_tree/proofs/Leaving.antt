@@ -1,4 +1,4 @@
--- What is left of the pieces of runs without their first units.
+-- The rest of the pieces of runs after their first units are removed.
 use Rattle.std.proofs.Common.{◌≡◌, ℕ, ◌<◌, ◌≤◌, List, ◌∷◌, ◌++◌, length, drop, ap, sym, subst, ◌∙◌, arith}
 use Rattle.std.specs.List.{All}
 use Rattle.std.proofs.lemmas.List.{length-append, length-drop, nil_from_length}
@@ -22,13 +22,13 @@ module _ (b : List (List ℕ)) (pieces : List Piece) (from n : ℕ) (left : Left
   count_is : length others ≡ count_left left (length pieces)
   count_is = omega (arith, length-append (listed left.rest) (drop left.from pieces), length-drop left.from pieces)
 
-  -- where something is left, all that stands behind is too
+  -- if some of the pieces are left, all pieces behind them are left
   pub some_left : (behind : List Piece) → 0 < count_left left (length pieces) → others ++ behind ≡ back b n (drop from pieces ++ behind)
   some_left behind some =
       let whole = is.pieces_left in
       ap (λ ps. ps ++ behind) whole ∙ sym (back_some b n (drop from pieces) behind (omega (arith, some, count_is, ap length whole)))
 
-  -- where nothing is left, the other units go from what stands behind
+  -- if none of the pieces are left, the missing units are removed from those behind
   pub none_left : (behind : List Piece) → count_left left (length pieces) ≤ 0 → back b n (drop from pieces ++ behind) ≡ back b left.missing behind
   none_left behind none =
       back_all b n (drop from pieces) behind (sym is.pieces_left ∙ nil_from_length others (omega (arith, none, count_is))) ∙ ap (λ k. back b k behind) (sym is.missing)
@@ -38,7 +38,7 @@ module _ (b : List (List ℕ)) (pieces : List Piece) (from n : ℕ) (left : Left
   left_behind behind later none same =
       ap (λ ps. ps ++ later) (nil_from_length others (omega (arith, none, count_is))) ∙ same ∙ sym (none_left behind none)
 
--- what is left of the pieces of a run can come in their place
+-- the pieces of a run can be replaced by what is left of them
 pub can_keep : (b : List (List ℕ)) (n : ℕ) (left : Left) (runs us : List (ℕ × List Piece)) (id : ℕ) (y : List Piece) (ws : List (ℕ × List Piece))
     → SplitsAt runs id us y ws → IsLeft b y 0 n left → 0 < count_left left (length y) → length y ≤ 16 → CanKeep runs id left
 can_keep b n left runs us id y ws at is some few = record {

@@ -1,6 +1,6 @@
 -- Look-ups of pieces, by look-ups of runs.
 use Rattle.std.proofs.Common.{◌≡◌, ℕ, suc, ◌+◌, ◌*◌, ◌<◌, ◌≤◌, ◌^◌, List, [], ◌∷◌, ◌++◌, length, refl, ap, sym, subst, ◌∙◌, arith}
-use Rattle.std.specs.List.{All, sum_by}
+use Rattle.std.specs.List.{All}
 use Rattle.std.proofs.lemmas.List.{map-append, length-append}
 use Rattle.std.proofs.lemmas.List.Elements.{All-head, All-tail}
 use Rattle.std.proofs.lemmas.List.Sums.{sum_by-append}
@@ -10,25 +10,12 @@ use Rattle.piece_tree.specs.declared.piece.Piece.{Piece}
 use Rattle.piece_tree.specs.declared.piece.PieceSum.{PieceSum}
 use Rattle.piece_tree.specs.declared.piece.Found.{Found}
 use Rattle.piece_tree.specs.declared.weave.Sought.{Sought}
-use Rattle.piece_tree.specs.declared.weave.Sought.TheVariants.{Offset, Break}
 use Rattle.piece_tree.specs.Pieces.{Entry, IsFound, pieces_of, unit_count, break_count_of, sum_of}
-use Rattle.piece_tree.specs.Searches.{few_breaks, counted, count_of}
+use Rattle.piece_tree.specs.Searches.{few_breaks, counted}
 use Rattle.piece_tree.specs.Runs.{name_of, found_in, pieces_in, entries_of, entries_from, HasRunOf, CanFindIn, IsFoundIn}
 use Rattle.piece_tree.specs.Costs.{WithinLookUps}
-use Rattle.piece_tree.proofs.Entries.{pieces_entries, pieces_from, in-append, entries-at}
+use Rattle.piece_tree.proofs.Entries.{Runs, pieces_entries, pieces_from, sum-at, entries-at}
 use Rattle.piece_tree.proofs.Sums.{units-cons, breaks_few}
-
-abbrev Runs : Type 0
-Runs = List (ℕ × List Piece)
-
--- the pieces before a run, those of it, and those behind it
-sum-at : (f : Piece → ℕ) (us : Runs) (id : ℕ) (x : List Piece) (vs : Runs) → sum_by f (pieces_in (us ++ (id, x) ∷ vs)) ≡ sum_by f (pieces_in us) + (sum_by f x + sum_by f (pieces_in vs))
-sum-at f us id x vs =
-    ap (sum_by f) (in-append us ((id, x) ∷ vs)) ∙ sum_by-append f (pieces_in us) (x ++ pieces_in vs) ∙ ap (λ n. sum_by f (pieces_in us) + n) (sum_by-append f x (pieces_in vs))
-
-counted_sum : (sought : Sought) (ps : List Piece) → counted sought (sum_of ps) ≡ count_of sought ps
-counted_sum (Offset offset) ps = refl
-counted_sum (Break number) ps = refl
 
 -- no run is empty, so there are no more runs than pieces
 pub length-from : (run place : ℕ) (ps : List Piece) → length (entries_from run place ps) ≡ length ps
@@ -51,7 +38,7 @@ module _ (runs : Runs) (entries : List Entry) (shown : entries_of runs ≡ entri
   pub entries_small : unit_count (pieces_in runs) < 2 ^ 62 → unit_count (pieces_of entries) < 2 ^ 62
   entries_small small = subst (λ ps. unit_count ps < 2 ^ 62) pieces_shown small
 
-  -- what it takes among runs is within what it may take among pieces
+  -- a bound in the number of runs is within the bound in the number of pieces
   pub within_look_ups : (look_ups nodes : ℕ) → All (λ r. 0 < length r.1) runs → 2 ^ nodes ≤ (length runs + 1) ^ (2 * look_ups) → WithinLookUps look_ups (length entries) nodes
   within_look_ups look_ups nodes full cost =
       let more : length runs + 1 ≤ length entries + 1 = omega (arith, fewer_runs runs full, ap length shown) in
@@ -71,7 +58,7 @@ module _ (runs : Runs) (sought : Sought) (at : ℕ × PieceSum) (has : HasRunOf 
     pub can_find : All few_breaks (pieces_in runs) → CanFindIn xs at.1 sought
     can_find few =
         let breaks = ap (λ rs. break_count_of (pieces_in rs)) has.place ∙ sum-at (λ (p : Piece). p.breaks) has.earlier at.0 has.pieces has.later in
-        let before = ap (counted sought) has.before ∙ counted_sum sought (pieces_in has.earlier) in
+        let before = ap (counted sought) has.before in
         let there : CanFindIn has.pieces at.1 sought = record {
           units = omega (arith, small, units, ap (λ (s : PieceSum). s.units) has.before);
           breaks = omega (arith, small, breaks, breaks_few (pieces_in runs) few, ap (λ (s : PieceSum). s.breaks) has.before);

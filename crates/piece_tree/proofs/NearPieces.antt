@@ -1,4 +1,4 @@
--- The pieces beside one, and the runs that they lie in.
+-- The neighbours of a piece, and their runs.
 use Rattle.std.proofs.Common.{◌≡◌, ℕ, suc, ◌+◌, ◌-◌, ◌<◌, Option, Some, None, List, [], ◌∷◌, ◌++◌, length, get_or, take, refl, ap, sym, subst, ◌∙◌, append_assoc, arith}
 use Rattle.std.proofs.lemmas.List.{length-append, length-take, take_all, get_or_append_left, get_or-append-add, append-nil}
 use Rattle.std.proofs.Math.Seq.{take-suc}
@@ -8,10 +8,7 @@ use Rattle.piece_tree.specs.declared.piece.Piece.{Piece}
 use Rattle.piece_tree.specs.declared.piece.PieceId.{PieceId}
 use Rattle.piece_tree.specs.Pieces.{Entry, IsAmong}
 use Rattle.piece_tree.specs.Runs.{name_of, entry_at, entries_of, entries_from, first_named, last_named}
-use Rattle.piece_tree.proofs.Entries.{split_entries, entries-append, from-append}
-
-abbrev Runs : Type 0
-Runs = List (ℕ × List Piece)
+use Rattle.piece_tree.proofs.Entries.{Runs, split_entries, entries-append, from-append}
 
 length_none : {X : Type 0} (xs : List X) → length xs ≡ 0 → xs ≡ []
 length_none [] e = refl
@@ -96,9 +93,9 @@ last_is runs run id is xs own some d =
     sym (ap last_named shown ∙ last_from (entries_of us) id (length xs - 1) xs d (omega arith)) in
     subst (λ o. LastIn runs o told) (sym is) there
 
--- where an entry stands
+-- the position of an entry
 module _ (runs : Runs) (id : PieceId) (p : Piece) (earlier later : List Entry) (h : entries_of runs ≡ earlier ++ entry_at id p ∷ later) where
-  -- at the front of the run, what is before it stands in the one before
+  -- at the front of its run, the entry before it is in the run before
   pub before_all : id.place ≡ 0 → (run : Option ℕ) (told : Option (PieceId × Piece)) → AtItem runs id.run (λ us x vs. run ≡ last_or None us) → LastIn runs run told → told ≡ last_named earlier
   before_all front run told prev tells =
       let (us, (x, (vs, (ps, (qs, at, pieces, place, before, behind))))) = split_entries runs earlier later (entry_at id p) h in
@@ -108,13 +105,13 @@ module _ (runs : Runs) (id : PieceId) (p : Piece) (earlier later : List Entry) (
 
   -- and the pieces of its run
   module _ (xs : List Piece) (own : AtItem runs id.run (λ us x vs. xs ≡ x)) where
-    -- it is one of them
+    -- its place is in the run
     pub within : id.place < length xs
     within =
         let (us, (x, (vs, (ps, (qs, at, pieces, place, before, behind))))) = split_entries runs earlier later (entry_at id p) h in
         omega (arith, place, ap length (own us x vs at ∙ pieces), length-append ps (p ∷ qs))
 
-    -- at the end of the run, what is behind it stands in the next one
+    -- at the end of its run, the entry after it is in the next run
     pub after_all : id.place + 1 ≡ length xs → (run : Option ℕ) (told : Option (PieceId × Piece)) → AtItem runs id.run (λ us x vs. run ≡ first_or None vs) → FirstIn runs run told
         → told ≡ first_named later
     after_all end run told next tells =
@@ -123,7 +120,7 @@ module _ (runs : Runs) (id : PieceId) (p : Piece) (earlier later : List Entry) (
         piece_behind runs (us ++ (id.run, x) ∷ []) vs (at ∙ sym (append_assoc us ((id.run, x) ∷ []) vs)) run told (next us x vs at) tells
         ∙ ap first_named (sym (behind ∙ ap (λ l. entries_from id.run (suc (length ps)) l ++ entries_of vs) none))
 
-    -- else it is the next of the run
+    -- else the entry after it is the next of its run
     pub after_one : (d : Piece) → id.place + 1 < length xs → Some (name_of id.run (id.place + 1), get_or xs (id.place + 1) d) ≡ first_named later
     after_one d more =
         let (us, (x, (vs, (ps, (qs, at, pieces, place, before, behind))))) = split_entries runs earlier later (entry_at id p) h in
@@ -134,7 +131,7 @@ module _ (runs : Runs) (id : PieceId) (p : Piece) (earlier later : List Entry) (
         (λ i. get_or ((own us x vs at ∙ pieces) i) (far i) d) ∙ get_or-append-add ps (p ∷ qs) 1 d in
         (λ i. Some (name_of id.run (next i), piece i)) ∙ sym (ap first_named behind ∙ first_from (entries_of vs) id.run (suc (length ps)) qs d some)
 
-    -- else it is the one before in the run
+    -- else the entry before it is the previous one of its run
     pub before_one : (d : Piece) → 0 < id.place → Some (name_of id.run (id.place - 1), get_or xs (id.place - 1) d) ≡ last_named earlier
     before_one d some =
         let (us, (x, (vs, (ps, (qs, at, pieces, place, before, behind))))) = split_entries runs earlier later (entry_at id p) h in

@@ -1,4 +1,4 @@
--- A new run is put in, or one is taken out.
+-- A run is inserted or removed.
 use Rattle.std.proofs.Common.{◌≡◌, ℕ, ◌+◌, ◌<◌, ◌^◌, List, [], ◌∷◌, ◌++◌, length, None, refl, sym, ap, ◌∙◌, subst, arith, append_assoc}
 use Rattle.std.specs.List.{All}
 use Rattle.std.specs.FinMap as map
@@ -13,8 +13,9 @@ use Rattle.piece_tree.specs.Pieces.{unit_count, sum_of}
 use Rattle.piece_tree.specs.Searches.{few_breaks}
 use Rattle.piece_tree.specs.Runs.{Runs, IsRun, listed_in, pieces_in}
 use Rattle.piece_tree.specs.Stored.{runs_of, stored_in, pieces_at, AreStored}
+use Rattle.piece_tree.proofs.Entries.{units-at}
 use Rattle.piece_tree.proofs.Sums.{units-append}
-use Rattle.piece_tree.proofs.Storing.{Around, standing, named, around_one, around_free, sum_is, stored-append, units-split, tree_units, tree_units-append, units_in}
+use Rattle.piece_tree.proofs.Storing.{Around, standing, named, around_one, around_free, sum_is, stored-append, tree_units, tree_units-append, units_in}
 use Rattle.piece_tree.proofs.Writing.{run_shown, run_stored, rest_shown, rest_stored}
 
 module _ (tree : Listed StoredRun) (stored : Nodes Run) (h : AreStored tree stored) (seen : Runs) (shown : runs_of tree stored ≡ seen) where
@@ -95,7 +96,7 @@ module _ (tree : Listed StoredRun) (stored : Nodes Run) (h : AreStored tree stor
             ∙ ap (λ rs. rs ++ (name, pieces) ∷ stored_in stored s.after) (stored-append stored s.before ((id, s.here) ∷ []))
             ∙ (λ i. (left i ++ (id, own i) ∷ []) ++ (name, pieces) ∷ right i) ∙ append_assoc us ((id, x) ∷ []) ((name, pieces) ∷ vs)
 
-  -- a run is taken out
+  -- a run is removed
   module _ (id : ℕ) (r : StoredRun) (told : AtItem tree.items id (λ us x vs. r ≡ x)) (left : Listed StoredRun) (out : LeavesOut tree.items left.items id)
       (new : Nodes Run) (live : new.live ≡ map.remove stored.live r.at) where
     around_out : (us : List (ℕ × StoredRun)) (x : StoredRun) (vs : List (ℕ × StoredRun)) → SplitsAt tree.items id us x vs → Around stored us vs r.at
@@ -110,7 +111,7 @@ module _ (tree : Listed StoredRun) (stored : Nodes Run) (h : AreStored tree stor
           h.small,
           ap (λ es. units_in (stored_in stored es)) e,
           ap units_in (stored-append stored us ((id, x) ∷ vs)),
-          units-split (stored_in stored us) id (pieces_at stored x.at) (stored_in stored vs),
+          units-at (stored_in stored us) id (pieces_at stored x.at) (stored_in stored vs),
         ))
 
     pub out_shown : LeavesOut seen.runs (stored_in new left.items) id

@@ -1,4 +1,4 @@
--- No run of a tree has the name of another.
+-- The runs of a tree have distinct names.
 use Rattle.std.proofs.Common.{◌≡◌, ◌≢◌, ℕ, List, [], ◌∷◌, ◌++◌, ap, sym, subst, ◌∙◌, append_assoc}
 use Rattle.std.specs.List.{All}
 use Rattle.std.proofs.lemmas.List.{append-nil}
@@ -28,7 +28,7 @@ module _ (id : ℕ) where
       All-cons IsOtherRun (e.0, pieces_at stored e.1.at) (stored_in stored es) (All-head IsOther e es all) (others_stored stored es (All-tail IsOther e es all))
 
   module _ (items : Items) (got : StoredRun) (own : AtItem items id (λ us x vs. got ≡ x)) where
-    -- what does not lie where that one lies has another name
+    -- runs stored at another arena node have another name
     others_named : (before es after : Items) → items ≡ before ++ (es ++ after) → times_at got.at es ≡ 0 → All IsOther es
     others_named before [] after e none = All-nil IsOther
     others_named before (f ∷ es) after e none =

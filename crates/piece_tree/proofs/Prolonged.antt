@@ -1,4 +1,4 @@
--- Pieces that a span is put behind.
+-- Pieces with a span appended.
 use Rattle.std.proofs.Common.{◌≡◌, ℕ, ◌+◌, ◌-◌, ◌≤◌, ◌==◌, Bool, true, false, Option, Some, None, List, [], ◌∷◌, ◌++◌, length, take, drop, refl, ap, sym, subst, ◌∙◌, arith}
 use Rattle.std.specs.List.{All}
 use Rattle.std.specs.Option.{ForSome}
@@ -44,7 +44,7 @@ goes_on_from-last [] p span = refl
 goes_on_from-last (q ∷ []) p span = refl
 goes_on_from-last (q ∷ r ∷ ps) p span = goes_on_from-last (r ∷ ps) p span
 
--- a counted piece that comes is that of its span
+-- a counted piece is the piece of its span
 module _ (b : List (List ℕ)) where
   pub listed_is : (piece : Option Piece) → ForSome piece (IsPieceOf b) → piece_list b (span_of piece) ≡ listed piece
   listed_is None counted = refl

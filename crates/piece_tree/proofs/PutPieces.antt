@@ -1,4 +1,4 @@
--- Pieces that come in the place of some of a run.
+-- Pieces of a run replaced by others.
 use Rattle.std.proofs.Common.{◌≡◌, ℕ, suc, ◌+◌, ◌-◌, ◌<◌, ◌≤◌, ◌^◌, Option, Some, None, List, [], ◌∷◌, ◌++◌, length, take, drop, refl, ap, sym, subst, ◌∙◌, append_assoc, arith}
 use Rattle.std.specs.List.{All}
 use Rattle.std.proofs.lemmas.List.{append-nil, drop_all, take_all, length-append, length-take-le, length-drop}
@@ -10,7 +10,7 @@ use Rattle.piece_tree.specs.declared.piece.PieceId.{PieceId}
 use Rattle.piece_tree.specs.Pieces.{Entry, unit_count, listed}
 use Rattle.piece_tree.specs.Runs.{name_of, pieces_in, entries_of, entries_from, replaced, CanReplaceIn, HasReplacedIn}
 use Rattle.piece_tree.specs.Splicing.{HeadsRest, Puts, Joins, entries_before, first_put}
-use Rattle.piece_tree.proofs.Entries.{entries-append, from-append, in-append}
+use Rattle.piece_tree.proofs.Entries.{entries-append, from-append, in-append, units-at}
 use Rattle.piece_tree.proofs.Sums.{units-append, All-parts}
 
 -- the pieces before a run, its own, and those behind it
@@ -21,9 +21,9 @@ in-split runs us id x vs e = ap pieces_in e ∙ in-append us ((id, x) ∷ vs)
 pub units-split : (runs us : List (ℕ × List Piece)) (id : ℕ) (x : List Piece) (vs : List (ℕ × List Piece)) → SplitsAt runs id us x vs
     → unit_count (pieces_in runs) ≡ unit_count (pieces_in us) + unit_count x + unit_count (pieces_in vs)
 units-split runs us id x vs e =
-    omega (arith, ap unit_count (in-split runs us id x vs e), units-append (pieces_in us) (x ++ pieces_in vs), units-append x (pieces_in vs))
+    omega (arith, ap (λ rs. unit_count (pieces_in rs)) e, units-at us id x vs)
 
--- what holds of all pieces holds of them
+-- a property of all pieces holds for those before a run, in it and behind it
 pub all_at : (P : Piece → Type 0) (runs us : List (ℕ × List Piece)) (id : ℕ) (x : List Piece) (vs : List (ℕ × List Piece)) → SplitsAt runs id us x vs → All P (pieces_in runs)
     → All P (pieces_in us) × All P x × All P (pieces_in vs)
 all_at P runs us id x vs e all =
@@ -60,7 +60,7 @@ heads_at earlier id [] zs more new e = refl
 heads_at earlier id (p ∷ ps) zs more new e = (id, (entries_from id.run (suc id.place) (ps ++ zs) ++ more, refl, e))
 
 module _ (id : PieceId) (to : ℕ) (with : List Piece) (us : List (ℕ × List Piece)) (x : List Piece) (vs new : List (ℕ × List Piece)) where
-  -- they stand in the run itself
+  -- the new pieces are in the run itself
   pub puts_here : (told : Option (PieceId × Piece)) (zs : List Piece) (later : List (ℕ × List Piece)) → id.place ≤ length x
       → SplitsAt new id.run us (take id.place x ++ with ++ zs) later → zs ++ pieces_in later ≡ drop to x ++ pieces_in vs → told ≡ first_put id with
       → Puts id to with us x vs new told
@@ -82,7 +82,7 @@ module _ (id : PieceId) (to : ℕ) (with : List Piece) (us : List (ℕ × List P
         first = heads_at (entries_before id us x) id with zs (entries_of later) (entries_of new) place;
       })
 
-  -- they stand at the front of a new run right behind it
+  -- the new pieces are at the front of a new run right behind it
   pub puts_behind : (told : Option (PieceId × Piece)) (other : ℕ) → SplitsAt new id.run us (take id.place x) ((other, with ++ drop to x) ∷ vs)
       → told ≡ first_put (name_of other 0) with → Puts id to with us x vs new told
   puts_behind told other e is =
@@ -100,7 +100,7 @@ module _ (id : PieceId) (to : ℕ) (with : List Piece) (us : List (ℕ × List P
         first = heads_at (entries_before id us x) (name_of other 0) with (drop to x) (entries_of vs) (entries_of new) place;
       })
 
-  -- none stand there, and the run is gone
+  -- there are no new pieces, and the run is removed
   pub puts_none : with ≡ [] → id.place ≡ 0 → length x ≤ to → new ≡ us ++ vs → Puts id to with us x vs new None
   puts_none none first all e =
       let before : take id.place x ≡ [] = ap (λ (n : ℕ). take n x) first in
@@ -113,7 +113,7 @@ module _ (id : PieceId) (to : ℕ) (with : List Piece) (us : List (ℕ × List P
         first = subst (λ ws. HeadsRest (entries_before id us x) ws None (entries_of new)) (sym none) refl;
       }
 
-  -- they stand in the run itself, which has then got those right behind it, or none
+  -- the new pieces are in the run itself, which was then joined with the next run or not
   pub puts_joined : (told : Option (PieceId × Piece)) → id.place ≤ length x → Joins id.run us (replaced id.place to with x) vs new → told ≡ first_put id with
       → Puts id to with us x vs new told
   puts_joined told within h is =
@@ -122,14 +122,14 @@ module _ (id : PieceId) (to : ℕ) (with : List Piece) (us : List (ℕ × List P
       (h.place ∙ ap (λ ps. us ++ (id.run, ps) ∷ h.later) (append_assoc front behind h.more))
       (append_assoc behind h.more (pieces_in h.later) ∙ ap (λ ps. behind ++ ps) (sym h.same)) is
 
-  -- they stand in the run itself, and what stood behind the place in a new one
+  -- the new pieces are in the run itself, and the pieces behind the place are in a new one
   pub puts_beside : (told : Option (PieceId × Piece)) (other end : ℕ) (behind : List Piece) → id.place ≤ length x → length x ≤ end
       → SplitsAt new id.run us (replaced id.place end with x) ((other, behind) ∷ vs) → behind ≡ drop to x → told ≡ first_put id with → Puts id to with us x vs new told
   puts_beside told other end behind within all e same is =
       puts_here told (drop end x) ((other, behind) ∷ vs) within e
       (ap (λ ps. ps ++ (behind ++ pieces_in vs)) (drop_all end x all) ∙ ap (λ ps. ps ++ pieces_in vs) same) is
 
-  -- they stand in a new run with what stood behind the place
+  -- the new pieces are in a new run, with the pieces behind the place
   pub puts_apart : (told : Option (PieceId × Piece)) (other end : ℕ) (more : List Piece) → length x ≤ end
       → SplitsAt new id.run us (replaced id.place end [] x) ((other, more) ∷ vs) → more ≡ with ++ drop to x → told ≡ first_put (name_of other 0) with
       → Puts id to with us x vs new told
@@ -143,7 +143,7 @@ replaced_end ps qs =
     let all : length ps ≤ length ps = omega arith in
     (λ i. take_all (length ps) ps all i ++ qs ++ drop_all (length ps) ps all i) ∙ append-nil (ps ++ qs)
 
--- what stands behind a run, and where it is joined with the next one
+-- the runs behind a run, and the join with the next one
 module _ (runs us : List (ℕ × List Piece)) (id : ℕ) (x : List Piece) (vs : List (ℕ × List Piece)) (e : SplitsAt runs id us x vs) where
   pub joins_none : Joins id us x vs runs
   joins_none = record { more = []; later = vs; place = e ∙ ap (λ ps. us ++ (id, ps) ∷ vs) (sym (append-nil x)); same = refl }

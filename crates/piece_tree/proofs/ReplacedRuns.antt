@@ -1,4 +1,4 @@
--- The pieces of a run between two places give way to others.
+-- Some pieces of a run are replaced by others.
 use Rattle.std.proofs.Common.{◌≡◌, ℕ, ◌+◌, ◌-◌, ◌<◌, ◌≤◌, ◌^◌, List, ◌∷◌, ◌++◌, length, Some, refl, sym, ap, ◌∙◌, subst, arith}
 use Rattle.std.specs.List.{All}
 use Rattle.std.specs.FinMap as map
@@ -13,7 +13,8 @@ use Rattle.piece_tree.specs.Searches.{few_breaks, few_breaks_in}
 use Rattle.piece_tree.specs.Runs.{Runs, IsRun, most_pieces, listed_in, replaced, CanReplaceIn, HasReplacedIn}
 use Rattle.piece_tree.specs.Stored.{runs_of, stored_in, IsStored, AreStored}
 use Rattle.piece_tree.proofs.Storing.{Stands, Around, standing, told_stored, told_pieces, counted_read, around_one, stored_here, sum_is, tree_units, tree_units-append, units_in}
-use Rattle.piece_tree.proofs.Writing.{few_in_sum, few_replaced, length-replaced, set_units, run_shown, run_stored}
+use Rattle.piece_tree.proofs.PutPieces.{length-replaced}
+use Rattle.piece_tree.proofs.Writing.{few_in_sum, few_replaced, set_units, run_shown, run_stored}
 
 module _ (tree : Listed StoredRun) (stored : Nodes Run) (h : AreStored tree stored) (seen : Runs) (shown : runs_of tree stored ≡ seen) (id from to : ℕ) (with : List Piece)
     (fits : CanReplaceIn seen.runs id from to with) (r : StoredRun) (told : AtItem tree.items id (λ us x vs. r ≡ x)) where
@@ -44,7 +45,7 @@ module _ (tree : Listed StoredRun) (stored : Nodes Run) (h : AreStored tree stor
       now_few = subst (All few_breaks) (sym now) (few_replaced from to with (listed_in old) few (counted_read stored (id, r) stored_there old was))
 
       now_some : 0 < length (listed_in run)
-      now_some = omega (arith, ap length now, length-replaced from to with (listed_in old) fits.ordered within_old, fits.some, ap length old_is)
+      now_some = omega (arith, ap length now, length-replaced from to with (listed_in old) (omega (arith, fits.ordered, within_old)), fits.some, ap length old_is)
 
       now_units : unit_count (listed_in run) ≡ unit_count (replaced from to with fits.pieces)
       now_units = ap unit_count (now ∙ ap (replaced from to with) old_is)

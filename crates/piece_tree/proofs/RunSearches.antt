@@ -7,7 +7,6 @@ use Rattle.rb_rules.specs.declared.weave.Turn.TheVariants.{Stop, Left, Right}
 use Rattle.rb_rules.specs.Woven as woven
 use Rattle.rb_arena.specs.RbTree.{Listed, SplitsAt}
 use Rattle.rb_arena.specs.Searching as searching
-use Rattle.piece_tree.specs.declared.piece.Piece.{Piece}
 use Rattle.piece_tree.specs.declared.piece.PieceSum.{PieceSum}
 use Rattle.piece_tree.specs.declared.run.Run.{Run}
 use Rattle.piece_tree.specs.declared.weave.StoredRun.{StoredRun}
@@ -19,7 +18,7 @@ use Rattle.piece_tree.specs.Runs.{Runs, HasRunOf, pieces_in}
 use Rattle.piece_tree.specs.Stored.{runs_of, stored_in, pieces_at, AreStored}
 use Rattle.piece_tree.proofs.Storing.{sum_is, stored_here, stored-append, pieces_there}
 
--- what each turn says of the one that is sought
+-- what each turn says of the target
 abbrev Means : Turn → ℕ → ℕ → ℕ → Type 0
 Means Left place before own = place < before
 Means Stop place before own = (before ≤ place) × (place < before + own)
@@ -35,7 +34,7 @@ means place before own = elim (cases_lt place before) [
       ])
 ]
 
--- the tree counts what is sought in the runs before, in one, and in those after
+-- the count of the target's kind in the runs before, in one, and in those after
 module _ (sought : Sought) where
   abbrev tally : List (ℕ × StoredRun) → ℕ
   tally us = counted sought (woven.sum_of adding us)
@@ -59,16 +58,12 @@ tally-split : (sought : Sought) (us : List (ℕ × StoredRun)) (e : ℕ × Store
 tally-split sought [] e vs = omega (arith, tally-none sought, tally-cons sought e vs)
 tally-split sought (u ∷ us) e vs = omega (arith, tally-split sought us e vs, tally-cons sought u us, tally-cons sought u (us ++ e ∷ vs))
 
-counted_sum : (sought : Sought) (pieces : List Piece) → counted sought (sum_of pieces) ≡ count_of sought pieces
-counted_sum (Offset offset) pieces = refl
-counted_sum (Break number) pieces = refl
-
 module _ (sought : Sought) where
   heard : (us : List (ℕ × StoredRun)) (x : StoredRun) (t : Turn) → searching.Says adding run_turn sought us x t → Means t (number_of sought) (tally sought us) (own sought x)
   heard us x t e =
       subst (λ u. Means u (number_of sought) (tally sought us) (own sought x)) (sym (says sought us x) ∙ e) (means (number_of sought) (tally sought us) (own sought x))
 
-  -- the search ends where the one that is sought is, or at the last run, if all have too few
+  -- the search ends at the run of the target, or at the last run if the target is past the end
   ended : (us : List (ℕ × StoredRun)) (id : ℕ) (x : StoredRun) (vs : List (ℕ × StoredRun)) → searching.EndsAt adding run_turn sought us id x vs
       → (tally sought us ≤ number_of sought) × ((number_of sought < tally sought us + own sought x) ⊎ ((vs ≡ []) × (tally sought us + own sought x ≤ number_of sought)))
   ended us id x vs (inl stop) = let (low, high) = heard us x Stop stop in (low, inl high)
@@ -97,12 +92,12 @@ module _ (sought : Sought) where
   pub found_run : (tree : Listed StoredRun) (stored : Nodes Run) → AreStored tree stored → (seen : Runs) → runs_of tree stored ≡ seen → (f : ℕ × StoredRun × PieceSum)
       → searching.Found adding run_turn sought tree.items (Some f) → number_of sought < count_of sought (pieces_in seen.runs) → HasRunOf seen.runs sought (f.0, f.2)
   found_run tree stored h seen shown f (us, (vs, e, before, ends)) inside =
-      let all = ap (counted sought) (sum_is stored tree.items h.each) ∙ counted_sum sought (pieces_in (stored_in stored tree.items)) in
+      let all = ap (counted sought) (sum_is stored tree.items h.each) in
       let (left, here, right) = stored_here stored tree.items us f.0 f.1 vs e h.each in
       let (low, high) = ended_within tree.items us f.0 f.1 vs e ends (omega (arith, all, ap (λ (r : Runs). count_of sought (pieces_in r.runs)) shown, inside)) in
-      let earlier = ap (counted sought) (sum_is stored us left) ∙ counted_sum sought (pieces_in (stored_in stored us)) in
+      let earlier = ap (counted sought) (sum_is stored us left) in
       let pieces = pieces_there stored f.1.at here.run here.there in
-      let this = ap (counted sought) (here.sum ∙ ap sum_of (sym pieces)) ∙ counted_sum sought (pieces_at stored f.1.at) in
+      let this = ap (counted sought) (here.sum ∙ ap sum_of (sym pieces)) in
       record {
         earlier = stored_in stored us;
         pieces = pieces_at stored f.1.at;

@@ -1,4 +1,4 @@
--- What a splice leaves of the runs, once it was cut and what goes was taken out.
+-- The runs after a splice, once the cut is made and the deleted units are removed.
 use Rattle.std.proofs.Common.{◌≡◌, ℕ, suc, ◌+◌, ◌-◌, ◌<◌, ◌≤◌, ◌^◌, Option, Some, None, List, [], ◌∷◌, ◌++◌, length, take, drop, refl, ap, sym, ◌∙◌, append_assoc, arith}
 use Rattle.std.specs.List.{All}
 use Rattle.std.specs.Option.{ForSome}
@@ -23,7 +23,7 @@ all_listed : (P : Piece → Type 0) (piece : Option Piece) → ForSome piece P �
 all_listed P None holds = All-nil P
 all_listed P (Some p) holds = All-cons P p [] (holds p refl) (All-nil P)
 
--- the pieces that come have few breaks
+-- the new pieces have few breaks
 pub joined_few : (b : List (List ℕ)) (left piece right : Option Piece) → ForSome left (IsPieceOf b) → ForSome piece (IsPieceOf b) → ForSome right (IsPieceOf b)
     → All few_breaks (joined b left (span_of piece) right)
 joined_few b left piece right counted_left counted counted_right =
@@ -32,7 +32,7 @@ joined_few b left piece right counted_left counted counted_right =
     (All-append P (followed_by b (listed left) (span_of piece)) (listed right)
     (pieces-followed_by b (listed left) (span_of piece) (inside_listed b piece counted) (all_listed P left counted_left)) (all_listed P right counted_right))
 
--- where in the runs the cut's piece stands
+-- the position of the cut's piece in the runs
 pub record CutIn (runs : List (ℕ × List Piece)) (cut : Cut) (earlier later : List Entry) (piece : Piece) : Type 0 where
   pub us : List (ℕ × List Piece)
   pub x : List Piece
@@ -103,7 +103,7 @@ module _ (b : List (List ℕ)) (start end : ℕ) (span : Option ChunkSpan) (runs
         e ∙ ap (λ ps. pieces_in h.us ++ replaced cut.id.place left.from ps h.x ++ pieces_in taken.later) same
         ∙ regroup (pieces_in h.us) (take cut.id.place h.x) came (listed left.rest) (drop left.from h.x) (pieces_in taken.later) ∙ sym spliced_is
 
-    -- in the place of those of the run they fit
+    -- the pieces of the run can be replaced by these
     pub can_put : (with : List Piece) → with ≡ joined b cut.left span left.rest → start ≤ unit_count (pieces_in runs)
         → start + unit_count (piece_list b span) + (unit_count (pieces_in runs) - end) < 2 ^ 62 → CanPut middle cut.id left.from with
     can_put with same within small =

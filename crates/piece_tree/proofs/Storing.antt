@@ -1,4 +1,4 @@
--- Runs and where they are stored: what a write at one place changes, and what it leaves.
+-- Runs and their storage: what a write at one arena node changes, and what it leaves unchanged.
 use Rattle.std.proofs.Common.{◌≡◌, ◌≢◌, ℕ, ◌+◌, ◌<◌, ◌≤◌, ◌==◌, cond, List, [], ◌∷◌, ◌++◌, length, map, Option, Some, None, inl, inr, refl, sym, ap, ◌∙◌, subst, arith, eq-eqb}
 use Rattle.std.proofs.lemmas.Bool.{ne_eqb}
 use Rattle.std.proofs.lemmas.Bool.Decides.{eqb_tells}
@@ -7,7 +7,6 @@ use Rattle.std.specs.List.{All}
 use Rattle.std.specs.Ordering.{nat_cmp}
 use Rattle.std.specs.FinMap as map_of
 use Rattle.std.proofs.lemmas.List.{map-append, length-take}
-use Rattle.std.proofs.lemmas.List.Concat.{flat_map-append}
 use Rattle.std.proofs.lemmas.List.Elements.{All-nil, All-cons, All-head, All-tail, All-append, All-weaker}
 use Rattle.std.proofs.lemmas.List.Sums.{sum_by-cons, sum_by-append}
 use Rattle.piece_tree.proofs.Sums.{units-append, All-parts}
@@ -24,7 +23,7 @@ use Rattle.piece_tree.specs.Searches.{adding, few_breaks}
 use Rattle.piece_tree.specs.Runs.{Runs, IsRun, most_pieces, listed_in, pieces_in}
 use Rattle.piece_tree.specs.Stored.{runs_of, pieces_at, stored_in, times_at, LieApart, IsStored, AreStored}
 
--- where a mapped list is parted, the list is
+-- a division of a mapped list gives one of the list
 pub record Parted {X Y : Type 0} (f : X → Y) (xs : List X) (us : List Y) (y : Y) (vs : List Y) : Type 0 where
   pub before : List X
   pub here : X
@@ -45,7 +44,7 @@ parted f [] (u ∷ us) y vs e = absurd (cc)
 parted f (x ∷ xs) [] y vs e = record { before = []; here = x; after = xs; place = refl; befores = refl; this = cc; afters = cc }
 parted f (x ∷ xs) (u ∷ us) y vs e = parted_on f x xs u us y vs (cc) (parted f xs us y vs (cc))
 
--- a run among those that contracts see stands among those of the tree
+-- a run that contracts see is an item of the tree
 pub record Stands (stored : Nodes Run) (items : List (ℕ × StoredRun)) (id : ℕ) (us : List (ℕ × List Piece)) (x : List Piece) (vs : List (ℕ × List Piece)) : Type 0 where
   pub before : List (ℕ × StoredRun)
   pub here : StoredRun
@@ -79,17 +78,9 @@ module _ (stored : Nodes Run) where
   pub pieces_there : (at : ℕ) (run : Run) → node stored at ≡ Some run → pieces_at stored at ≡ listed_in run
   pieces_there at run there = ap (λ (o : Option Run). elim o [ None ↦ [] | Some r ↦ listed_in r ]) there
 
--- how many units the pieces of some runs have
+-- the number of units of some runs
 abbrev pub units_in : List (ℕ × List Piece) → ℕ
 units_in runs = unit_count (pieces_in runs)
-
-in-split : (us : List (ℕ × List Piece)) (id : ℕ) (x : List Piece) (vs : List (ℕ × List Piece)) → pieces_in (us ++ (id, x) ∷ vs) ≡ pieces_in us ++ (x ++ pieces_in vs)
-in-split us id x vs = flat_map-append (λ (r : ℕ × List Piece). r.1) us ((id, x) ∷ vs)
-
-pub units-split : (us : List (ℕ × List Piece)) (id : ℕ) (x : List Piece) (vs : List (ℕ × List Piece))
-    → units_in (us ++ (id, x) ∷ vs) ≡ units_in us + (unit_count x + units_in vs)
-units-split us id x vs =
-    ap unit_count (in-split us id x vs) ∙ units-append (pieces_in us) (x ++ pieces_in vs) ∙ ap (λ n. units_in us + n) (units-append x (pieces_in vs))
 
 -- the units that the tree counts
 abbrev pub tree_units : List (ℕ × StoredRun) → ℕ
@@ -120,7 +111,7 @@ module _ (stored : Nodes Run) where
       let (left, right) = All-parts (IsStored stored) us ((id, r) ∷ vs) (subst (All (IsStored stored)) e each) in
       (left, All-head (IsStored stored) (id, r) vs right, All-tail (IsStored stored) (id, r) vs right)
 
--- how many lie at a place
+-- the number of runs at an arena node
 times-split : (at : ℕ) (us : List (ℕ × StoredRun)) (e : ℕ × StoredRun) (vs : List (ℕ × StoredRun)) → times_at at (us ++ e ∷ vs) ≡ times_at at us + (cond (at == e.1.at) 1 0 + times_at at vs)
 times-split at us e vs =
     let test : (ℕ × StoredRun) → ℕ = λ d. cond (at == d.1.at) 1 0 in
@@ -137,7 +128,7 @@ none_first at e es none =
     let split = times-split at [] e es in
     (λ same. absurd (omega (arith, split, none, one_here at e same)), omega (arith, split, none))
 
--- none lies at a place that is not taken
+-- no run is stored at a free node
 none_free : (stored : Nodes Run) (at : ℕ) → node stored at ≡ None → (es : List (ℕ × StoredRun)) → All (IsStored stored) es → times_at at es ≡ 0
 none_free stored at free [] each = refl
 none_free stored at free (e ∷ es) each =
@@ -145,7 +136,7 @@ none_free stored at free (e ∷ es) each =
     let other : e.1.at ≢ at = λ same. (let taken = first.there in let there = ap (node stored) same in cc) in
     omega (arith, times-split at [] e es, none_here at e other, none_free stored at free es (All-tail (IsStored stored) e es each))
 
--- runs before a place of the list and after it, of which none lies at that place of the arena
+-- the runs before and after a position in the list, none of them stored at node `at`
 pub record Around (stored : Nodes Run) (us vs : List (ℕ × StoredRun)) (at : ℕ) : Type 0 where
   pub left : All (IsStored stored) us
   pub right : All (IsStored stored) vs
@@ -178,7 +169,7 @@ around_free tree stored h us vs e at free =
       apart = λ q. subst (λ n. n ≤ 1) (ap (times_at q) e ∙ sum_by-append (λ (d : ℕ × StoredRun). cond (q == d.1.at) 1 0) us vs) (h.apart q);
     }
 
--- what changes at one place of the arena alone
+-- the arena changes at one node only
 module _ (old new : Nodes Run) (at : ℕ) (others : (q : ℕ) → q ≢ at → node new q ≡ node old q) where
   stays : (es : List (ℕ × StoredRun)) → times_at at es ≡ 0 → stored_in new es ≡ stored_in old es
   stays [] none = refl
@@ -238,7 +229,7 @@ module _ (stored : Nodes Run) where
   last_shown o [] = refl
   last_shown o (e ∷ es) = last_shown (Some e.0) es
 
-  -- what was read of the place where a run lies
+  -- the run that was read at the node of an item
   module _ (e : ℕ × StoredRun) (s : IsStored stored e) (run : Run) (there : node stored e.1.at ≡ Some run) where
     run_read : s.run ≡ run
     run_read = let t = s.there in cc
@@ -298,7 +289,7 @@ module _ (tree : Listed StoredRun) (stored : Nodes Run) (seen : Runs) (shown : r
       let rest = s.afters in
       ap (stored_in stored) (from s.before s.here s.after s.place) ∙ (λ i. (id, own i) ∷ rest i)
 
--- a walk tells the first of the runs that are left
+-- a walk returns the first of the runs that are left
 pub told_first : (stored : Nodes Run) (left rest : List (ℕ × StoredRun)) (e : ℕ × StoredRun) → left ≡ e ∷ rest → All (IsStored stored) left → IsStored stored e × All (IsStored stored) rest
 told_first stored left rest e is each =
     let all = subst (All (IsStored stored)) is each in (All-head (IsStored stored) e rest all, All-tail (IsStored stored) e rest all)

@@ -1,35 +1,29 @@
 -- Walks over the pieces, by walks over their runs.
-use Rattle.std.proofs.Common.{◌≡◌, ℕ, suc, ◌+◌, ◌<◌, ◌≤◌, Option, Some, None, List, [], ◌∷◌, ◌++◌, length, drop, map, refl, ap, sym, subst, ◌∙◌, append_assoc, arith}
+use Rattle.std.proofs.Common.{◌≡◌, ℕ, suc, ◌+◌, ◌≤◌, Option, Some, None, List, [], ◌∷◌, ◌++◌, length, drop, refl, ap, sym, subst, ◌∙◌, arith}
 use Rattle.std.specs.List.{All}
 use Rattle.std.specs.Prelude.{IfSome, false}
 use Rattle.std.specs.Option.{is_some}
-use Rattle.std.proofs.lemmas.List.{length-append, map-append}
+use Rattle.std.proofs.lemmas.List.{length-append}
 use Rattle.std.proofs.lemmas.List.Elements.{All-nil, All-head, All-tail}
 use Rattle.std.proofs.Math.Seq.{drop-append_seam}
 use Rattle.rb_arena.specs.RbTree.{IsItem, first_or}
 use Rattle.rb_arena.specs.Walking as runs_of
-use Rattle.chunk_buffers.specs.declared.span.ChunkSpan.{ChunkSpan}
 use Rattle.piece_tree.specs.declared.piece.Piece.{Piece}
 use Rattle.piece_tree.specs.declared.piece.PieceId.{PieceId}
 use Rattle.piece_tree.specs.Pieces.{Entry, IsAmong}
-use Rattle.piece_tree.specs.Runs.{most_pieces, entry_at, pieces_in, entries_of, entries_from, entries_past}
+use Rattle.piece_tree.specs.Runs.{most_pieces, entry_at, entries_of, entries_from, entries_past}
 use Rattle.piece_tree.specs.Walking.{LeftFrom, place_of, WalksIn}
-use Rattle.piece_tree.proofs.Entries.{split_entries}
+use Rattle.piece_tree.proofs.Entries.{Runs, split_entries}
+use Rattle.piece_tree.proofs.FullRuns.{IsFull}
 use Rattle.piece_tree.proofs.Sums.{All-parts}
 use Rattle.piece_tree.proofs.NearPieces.{run_named}
-
-abbrev Runs : Type 0
-Runs = List (ℕ × List Piece)
-
-abbrev IsFull : ℕ × List Piece → Type 0
-IsFull r = 0 < length r.1
 
 -- a walk that starts at the front of a run
 pub starts_in : (pieces : List Piece) (behind : Runs) → All IsFull behind → WalksIn None pieces 0 behind
 starts_in pieces [] full = record { here = tt; full = full }
 starts_in pieces (r ∷ rs) full = record { here = All-head IsFull r rs full; full = full }
 
--- a walk that stands in a run
+-- a walk with a current run
 abbrev pub StandsIn : List Piece → ℕ → Runs → Type 0
 StandsIn pieces place behind = (run : ℕ) → WalksIn (Some run) pieces place behind
 
@@ -80,15 +74,3 @@ module _ (runs : Runs) (entries : List Entry) (shown : entries_of runs ≡ entri
 pub left_all : (runs : Runs) (first : Option ℕ) (left : Runs) → first ≡ first_or None runs → runs_of.LeftFrom runs first left → left ≡ runs
 left_all [] first left is from = subst (λ o. runs_of.LeftFrom [] o left) is from
 left_all (r ∷ rs) first left is from = let all : runs_of.LeftFrom (r ∷ rs) (Some r.0) left = subst (λ o. runs_of.LeftFrom (r ∷ rs) o left) is from in all [] r.1 rs refl
-
--- the spans of a run have come behind those so far
-abbrev spans_of : List Piece → List ChunkSpan
-spans_of ps = map (λ p. p.span) ps
-
-pub spans_more : (out new : List ChunkSpan) (old left : Runs) (r : ℕ × List Piece) (all : List ChunkSpan) → out ++ spans_of (pieces_in old) ≡ all → old ≡ r ∷ left → new ≡ out ++ spans_of r.1
-    → new ++ spans_of (pieces_in left) ≡ all
-spans_more out new old left r all so is more =
-    ap (λ l. l ++ spans_of (pieces_in left)) more
-    ∙ append_assoc out (spans_of r.1) (spans_of (pieces_in left))
-    ∙ ap (λ l. out ++ l) (sym (ap (λ rs. spans_of (pieces_in rs)) is ∙ map-append (λ (p : Piece). p.span) r.1 (pieces_in left)))
-    ∙ so

@@ -1,9 +1,8 @@
--- What becomes of the runs where one is put, written or taken out.
-use Rattle.std.proofs.Common.{◌≡◌, ◌≢◌, ℕ, ◌+◌, ◌-◌, ◌<◌, ◌≤◌, ◌^◌, List, ◌∷◌, ◌++◌, length, take, drop, Some, sym, ap, ◌∙◌, subst, arith}
+-- The runs after one is inserted, written or removed.
+use Rattle.std.proofs.Common.{◌≡◌, ◌≢◌, ℕ, ◌+◌, ◌<◌, ◌^◌, List, ◌∷◌, ◌++◌, length, take, drop, Some, sym, ap, ◌∙◌, subst, arith}
 use Rattle.std.specs.List.{All}
 use Rattle.std.specs.Ordering.{nat_cmp}
 use Rattle.std.specs.FinMap as map
-use Rattle.std.proofs.lemmas.List.{length-append, length-drop, length-take-le}
 use Rattle.std.proofs.lemmas.List.Concat.{flat_map-append}
 use Rattle.std.proofs.lemmas.List.Elements.{All-append, All-take, All-drop}
 use Rattle.raw_arena.specs.Arena.{Nodes, node}
@@ -17,23 +16,19 @@ use Rattle.piece_tree.specs.Pieces.{unit_count, sum_of}
 use Rattle.piece_tree.specs.Searches.{few_breaks, few_breaks_in}
 use Rattle.piece_tree.specs.Runs.{IsRun, listed_in, pieces_in, replaced}
 use Rattle.piece_tree.specs.Stored.{stored_in, IsStored, AreStored}
+use Rattle.piece_tree.proofs.Entries.{units-at}
 use Rattle.piece_tree.proofs.Sums.{units-append, breaks_few}
-use Rattle.piece_tree.proofs.Storing.{Around, put_each, put_apart, put_shown, left_each, left_apart, left_shown, units-split, tree_units, tree_units-append, units_in}
+use Rattle.piece_tree.proofs.Storing.{Around, put_each, put_apart, put_shown, left_each, left_apart, left_shown, tree_units, tree_units-append, units_in}
 
 -- the sum of pieces with few breaks
 pub few_in_sum : (ps : List Piece) (sum : PieceSum) → sum ≡ sum_of ps → All few_breaks ps → few_breaks_in sum
 few_in_sum ps sum is few = omega (arith, ap (λ (s : PieceSum). s.units) is, ap (λ (s : PieceSum). s.breaks) is, breaks_few ps few)
 
-module _ (from to : ℕ) (with ps : List Piece) (ordered : from ≤ to) (within : to ≤ length ps) where
-  pub length-replaced : length (replaced from to with ps) ≡ from + length with + (length ps - to)
-  length-replaced =
-      omega (arith, length-append (take from ps ++ with) (drop to ps), length-append (take from ps) with, length-take-le from ps (omega arith), length-drop to ps)
-
 pub few_replaced : (from to : ℕ) (with ps : List Piece) → All few_breaks with → All few_breaks ps → All few_breaks (replaced from to with ps)
 few_replaced from to with ps few all =
     All-append few_breaks (take from ps ++ with) (drop to ps) (All-append few_breaks (take from ps) with (All-take few_breaks from ps all) few) (All-drop few_breaks to ps all)
 
--- the tree's sum with an item in the place of another
+-- the tree's sum after an item is replaced
 pub set_units : (items us ws : List (ℕ × StoredRun)) (id : ℕ) (x y new : StoredRun) (vs zs : List (ℕ × StoredRun)) → SplitsAt items id us x vs → SplitsAt items id ws y zs → x ≡ y
     → tree_units (us ++ (id, new) ∷ vs) ≡ tree_units (ws ++ (id, new) ∷ zs)
 set_units items us ws id x y new vs zs e f same =
@@ -48,7 +43,7 @@ set_units items us ws id x y new vs zs e f same =
       ap (λ (r : StoredRun). r.sum.units) same,
     )
 
--- a run is put into the arena, or written there
+-- a run is inserted into the arena, or written there
 module _ (stored new : Nodes Run) (at : ℕ) (run : Run) (live : new.live ≡ map.insert stored.live at run) where
   there : node new at ≡ Some run
   there = ap (λ (m : map.FinMap nat_cmp Run). map.get m at) live ∙ get-insert_same stored.live at run
@@ -67,10 +62,10 @@ module _ (stored new : Nodes Run) (at : ℕ) (run : Run) (live : new.live ≡ ma
         record {
           each = subst (All (IsStored new)) (sym is) (put_each stored new at others us vs a e own);
           apart = rw is (put_apart stored new at others us vs a e here);
-          small = omega (arith, small, ap units_in run_shown, units-split (stored_in stored us) e.0 (listed_in run) (stored_in stored vs));
+          small = omega (arith, small, ap units_in run_shown, units-at (stored_in stored us) e.0 (listed_in run) (stored_in stored vs));
         }
 
--- and taken out
+-- a run is removed from the arena
 module _ (stored new : Nodes Run) (at : ℕ) (live : new.live ≡ map.remove stored.live at) where
   kept : (q : ℕ) → q ≢ at → node new q ≡ node stored q
   kept q ne = ap (λ (m : map.FinMap nat_cmp Run). map.get m q) live ∙ get-remove_other stored.live at q ne

@@ -6,3 +6,4 @@ pub mod Stored
 pub mod Splicing
 pub mod Costs
 pub mod Walking
+pub mod Examples

@@ -1,4 +1,4 @@
--- How the list of pieces lies in runs.
+-- The list of pieces, divided into runs.
 use Rattle.std.specs.Prelude.{ℕ, suc, ◌≡◌, ◌+◌, ◌-◌, ◌<◌, ◌≤◌, ◌^◌, Option, Some, None, List, [], ◌∷◌, ◌++◌, length, take, drop, flat_map}
 use Rattle.std.specs.List.{All}
 use Rattle.rb_arena.specs.RbTree.{SplitsAt, AtItem}
@@ -16,7 +16,7 @@ use Rattle.piece_tree.specs.Searches.{few_breaks, count_of, number_of, counted, 
 abbrev pub most_pieces : ℕ
 most_pieces = MOST_PIECES
 
--- it has no more pieces than it can hold
+-- the run has at most `most_pieces` pieces
 abbrev pub IsRun : Run → Type 0
 IsRun run = run.count ≤ most_pieces
 
@@ -28,14 +28,14 @@ listed_in run = take run.count run.pieces
 pub record Runs : Type 0 where
   -- the pieces of each run, under its name, in the order of the text
   pub runs : List (ℕ × List Piece)
-  -- for how many more runs there is room
+  -- the number of further runs for which there is room
   pub spare : ℕ
 
--- and of a walk over them
+-- what contracts see of a walk over the runs
 pub record WalkedRuns : Type 0 where
-  -- the runs that it has not told yet
+  -- the runs that are left
   pub left : List (ℕ × List Piece)
-  -- how many more steps than three for each of them it may still take
+  -- the rest of the walk takes at most this many steps more than three for each run that is left
   pub due : ℕ
 
 -- the pieces of all runs
@@ -59,27 +59,27 @@ abbrev pub entries_of : List (ℕ × List Piece) → List Entry
 entries_of [] = []
 entries_of (r ∷ rs) = entries_from r.0 0 r.1 ++ entries_of rs
 
--- the same without so many at the front of the first run
+-- the entries of all runs without the first `place` of the first run
 abbrev pub entries_past : ℕ → List (ℕ × List Piece) → List Entry
 entries_past place [] = []
 entries_past place (r ∷ rs) = entries_from r.0 place (drop place r.1) ++ entries_of rs
 
--- the first of these with its name
+-- the first entry as a pair of name and piece
 abbrev pub first_named : List Entry → Option (PieceId × Piece)
 first_named [] = None
 first_named (e ∷ entries) = Some (e.id, e.piece)
 
--- the last of these with its name
+-- the last entry as a pair of name and piece
 abbrev pub last_named : List Entry → Option (PieceId × Piece)
 last_named [] = None
 last_named (e ∷ []) = Some (e.id, e.piece)
 last_named (e ∷ f ∷ entries) = last_named (f ∷ entries)
 
--- a piece as a look-up tells it, where the pieces before it have that sum
+-- a piece as a look-up returns it, where `before` is the sum of the pieces before it
 abbrev pub found_in : PieceId → Piece → PieceSum → Found
 found_in id p before = record { id = id; span = p.span; breaks = p.breaks; before = before }
 
--- the run has what is sought, and the pieces before it have that sum
+-- the run `at.0` contains the target, and `at.1` is the sum of the pieces before it
 pub record HasRunOf (runs : List (ℕ × List Piece)) (sought : Sought) (at : ℕ × PieceSum) : Type 0 where
   pub earlier : List (ℕ × List Piece)
   pub pieces : List Piece
@@ -89,14 +89,15 @@ pub record HasRunOf (runs : List (ℕ × List Piece)) (sought : Sought) (at : �
   pub start : count_of sought (pieces_in earlier) ≤ number_of sought
   pub end : number_of sought < count_of sought (pieces_in earlier) + count_of sought pieces
 
--- one of the pieces has what is sought, where the pieces before them have that sum, and all of them together are not too long
+-- one of the pieces contains the target, where `before` is the sum of the pieces before them, and all together are less than 2 ^ 62 units
+-- and breaks
 pub record CanFindIn (pieces : List Piece) (before : PieceSum) (sought : Sought) : Type 0 where
   pub units : before.units + unit_count pieces < 2 ^ 62
   pub breaks : before.breaks + break_count_of pieces < 2 ^ 62
   pub start : counted sought before ≤ number_of sought
   pub end : number_of sought < counted sought before + count_of sought pieces
 
--- that piece is told with its name, and with what the pieces before it have
+-- that piece is `found`, with its name and the sum of the pieces before it
 pub record IsFoundIn (run : ℕ) (pieces : List Piece) (before : PieceSum) (sought : Sought) (found : Found) : Type 0 where
   pub earlier : List Piece
   pub piece : Piece
@@ -106,11 +107,12 @@ pub record IsFoundIn (run : ℕ) (pieces : List Piece) (before : PieceSum) (soug
       (record { units = before.units + unit_count earlier; breaks = before.breaks + break_count_of earlier })
   pub has : HasNumber sought found
 
--- the pieces with others in the place of those between two places
+-- the pieces with those from index `from` to `to` replaced by others
 abbrev pub replaced : ℕ → ℕ → List Piece → List Piece → List Piece
 replaced from to with pieces = take from pieces ++ with ++ drop to pieces
 
--- the pieces of that run between the two places can be replaced by these: the run is then neither empty nor too long, nor is the text
+-- the pieces of that run from index `from` to `to` can be replaced by these: the run is then neither empty nor too long, and the text has
+-- less than 2 ^ 62 units
 pub record CanReplaceIn (runs : List (ℕ × List Piece)) (id from to : ℕ) (with : List Piece) : Type 0 where
   pub earlier : List (ℕ × List Piece)
   pub pieces : List Piece
@@ -126,9 +128,8 @@ pub record CanReplaceIn (runs : List (ℕ × List Piece)) (id from to : ℕ) (wi
 abbrev pub HasReplacedIn : List (ℕ × List Piece) → List (ℕ × List Piece) → ℕ → ℕ → ℕ → List Piece → Type 0
 HasReplacedIn old new id from to with = AtItem old id (λ us x vs. new ≡ us ++ (id, replaced from to with x) ∷ vs)
 
--- the sum is that of the pieces, and the tree has room for one more run a splice
-pub record IsTree (pieces : List Piece) (whole : PieceSum) (free spare : ℕ) : Type 0 where
-  pub sum : whole ≡ sum_of pieces
+-- the text is not too long, and the tree has room for one more run a splice
+pub record IsTree (pieces : List Piece) (free spare : ℕ) : Type 0 where
   pub small : unit_count pieces < 2 ^ 62
   pub few : All few_breaks pieces
   pub room : spare ≤ free

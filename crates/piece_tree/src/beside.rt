@@ -1,4 +1,4 @@
-//! Pieces by their names, and those beside them.
+//! Pieces by their names, and their neighbours.
 ghost use Rattle.std.specs.Prelude.{◌≡◌, ◌∷◌, ◌++◌, [], None, IfSome, MatchOption};
 ghost use Rattle.rb_arena.specs.RbTree.{IsItem, AtItem};
 ghost use Rattle.piece_tree.specs.Pieces.{IsAmong, AtEntry};
@@ -8,7 +8,7 @@ use crate::piece::{Found, Piece, PieceId, PieceSum};
 use crate::runs::RunTree;
 use raw_arena::NodeId;
 
-/// The first piece of a run; None where none is named.
+/// Returns the first piece of a run; None for None.
 fn first_in(runs: &RunTree, run: Option<NodeId>) -> Option<(PieceId, Piece)>
     requires { IfSome run (IsItem runs.now.runs) }
     ensures { MatchOption run (result ≡ None) (λ id. AtItem runs.now.runs id (λ us x vs.
@@ -19,7 +19,7 @@ fn first_in(runs: &RunTree, run: Option<NodeId>) -> Option<(PieceId, Piece)>
     Some((id, runs.get(run)[0]))
 }
 
-/// The last piece of a run; None where none is named.
+/// Returns the last piece of a run; None for None.
 fn last_in(runs: &RunTree, run: Option<NodeId>) -> Option<(PieceId, Piece)>
     requires { IfSome run (IsItem runs.now.runs) }
     ensures { MatchOption run (result ≡ None) (λ id. AtItem runs.now.runs id (λ us x vs.
@@ -35,14 +35,14 @@ fn last_in(runs: &RunTree, run: Option<NodeId>) -> Option<(PieceId, Piece)>
     Some((id, pieces[place]))
 }
 
-/// The last piece with its name; None where there is none.
+/// Returns the last piece with its name; None if there are no pieces.
 pub(crate) fn last_piece(runs: &RunTree) -> Option<(PieceId, Piece)>
     ensures { result ≡ last_named (entries_of runs.now.runs) }
 {
     last_in(runs, runs.last())
 }
 
-/// The piece after the one of this name.
+/// Returns the piece after the named one; None after the last.
 pub(crate) fn piece_after(runs: &RunTree, id: PieceId) -> Option<(PieceId, Piece)>
     requires { IsAmong (entries_of runs.now.runs) id }
     ensures { AtEntry (entries_of runs.now.runs) id (λ earlier later.
@@ -60,7 +60,7 @@ pub(crate) fn piece_after(runs: &RunTree, id: PieceId) -> Option<(PieceId, Piece
     Some((next, pieces[place]))
 }
 
-/// The piece before the one of this name.
+/// Returns the piece before the named one; None before the first.
 pub(crate) fn piece_before(runs: &RunTree, id: PieceId) -> Option<(PieceId, Piece)>
     requires { IsAmong (entries_of runs.now.runs) id }
     ensures { AtEntry (entries_of runs.now.runs) id (λ earlier later.
@@ -77,7 +77,7 @@ pub(crate) fn piece_before(runs: &RunTree, id: PieceId) -> Option<(PieceId, Piec
     Some((before, pieces[id.place as usize - 1]))
 }
 
-/// A piece as a look-up tells it, with its name and what the pieces before it have.
+/// Returns a piece as a look-up would, with its name and the sum of the pieces before it.
 pub(crate) fn found(at: (PieceId, Piece), before: PieceSum) -> Found
     ensures { result ≡ found_in at.0 at.1 before }
 {

@@ -10,19 +10,19 @@ use crate::piece::{Found, Piece, PieceId, PieceSum, goes_on, piece_of};
 use crate::runs::RunTree;
 use chunk_buffers::Chunks;
 
-/// Where a splice begins: in or right behind a piece.
+/// Where a splice begins: at the start of a piece, inside it or right after it.
 #[derive(Clone, Copy)]
 pub(crate) struct Cut {
     pub id: PieceId,
-    /// What of the piece stays before what comes, if anything.
+    /// The part of the piece that stays before the new units, if any.
     pub left: Option<Piece>,
-    /// Where what goes ends, counted from the piece's start.
+    /// The end of the deleted units, counted from the piece's start.
     pub end: u64,
-    /// What the pieces before this one have.
+    /// The sum of the pieces before this one.
     pub before: PieceSum,
 }
 
-/// Where a splice begins; None where there is no piece.
+/// Finds where a splice begins; None if there are no pieces.
 pub(crate) fn first_cut(
     runs: &RunTree,
     at: &Option<Found>,
@@ -62,7 +62,7 @@ pub(crate) fn first_cut(
     })
 }
 
-/// A cut right behind a piece, where that many units go. The sum is that of the pieces up to this one.
+/// Returns the cut right after a piece, where `deleted` units go. `sum` is the sum of the pieces up to and including it.
 fn cut_behind(at: (PieceId, Piece), sum: PieceSum, deleted: u64) -> Cut
     requires units { at.1.span.units ≤ sum.units }
     requires breaks { at.1.breaks ≤ sum.breaks }
@@ -81,7 +81,7 @@ fn cut_behind(at: (PieceId, Piece), sum: PieceSum, deleted: u64) -> Cut
     }
 }
 
-/// The piece right before that one, where what comes goes on from it.
+/// Returns the piece right before the named one if the new piece starts where it ends in the same buffer; else None.
 fn joint(runs: &RunTree, id: PieceId, piece: Option<Piece>) -> Option<(PieceId, Piece)>
     requires { IsAmong (entries_of runs.now.runs) id }
     ensures { AtEntry (entries_of runs.now.runs) id (λ earlier later.

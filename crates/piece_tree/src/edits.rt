@@ -1,4 +1,4 @@
-//! The changes of a splice: units that go, and a piece that comes.
+//! The changes of a splice: units are removed and a piece is inserted.
 ghost use Rattle.std.specs.Prelude.{◌≡◌, None, ◌+◌, ◌<◌, ◌≤◌, ◌^◌, IfSome};
 ghost use Rattle.std.specs.List.{All};
 ghost use Rattle.std.specs.Option.{ForSome, ForNone, option_map};
@@ -14,8 +14,8 @@ use crate::put::{joined, put, put_only, remove_units};
 use crate::runs::RunTree;
 use chunk_buffers::Chunks;
 
-/// Puts a piece, if there is one, in the place of units from the offset on, where the piece of the unit at the offset was looked up.
-/// Tells the first of the pieces that it put, if any.
+/// Replaces `deleted` units from the offset on by a piece, if one is given. `at` is the piece of the unit at the offset; None at the end.
+/// Returns the first of the pieces that were put, if any.
 pub(crate) fn replace_units(
     runs: &mut RunTree,
     at: &Option<Found>,
@@ -50,7 +50,7 @@ pub(crate) fn replace_units(
     found_first(first, cut.before)
 }
 
-/// Tells what is left of the pieces of a run from a place on without their first units, and takes out what of these units stands
+/// Returns what is left of the pieces of a run from a place on without the first `units` units, and removes those of these units that stand
 /// behind the run.
 fn take_units(runs: &mut RunTree, id: PieceId, units: u64, chunks: &Chunks) -> Left
     requires can { CanTake chunks.now.buffers runs.old.runs id }
@@ -68,7 +68,7 @@ fn take_units(runs: &mut RunTree, id: PieceId, units: u64, chunks: &Chunks) -> L
     left
 }
 
-/// The first piece that was put, if any, as a look-up tells it.
+/// Returns the first piece that was put, if any, as a look-up would return it.
 fn found_first(first: Option<(PieceId, Piece)>, before: PieceSum) -> Option<Found>
     ensures { result ≡ option_map (λ at. found_in at.0 at.1 before) first }
 {

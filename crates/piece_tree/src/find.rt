@@ -1,4 +1,4 @@
-//! The piece of a run that has what is sought.
+//! Finds a unit or a break in the pieces of a run.
 ghost use Rattle.std.specs.Prelude.{◌≡◌, ◌+◌, ◌-◌, ◌<◌, ◌≤◌, ◌^◌, length, nat_lt};
 ghost use Rattle.piece_tree.specs.Runs.{most_pieces, CanFindIn, IsFoundIn};
 ghost use Rattle.piece_tree.specs.Searches.{number_of, counted};
@@ -9,7 +9,7 @@ use crate::weave::Sought;
 use raw_arena::NodeId;
 use steps::Steps;
 
-/// The sum of some pieces and one behind them.
+/// Returns the sum with one more piece.
 fn with_piece(sum: PieceSum, piece: &Piece) -> PieceSum
     requires units { sum.units < 2 ^ 62 }
     requires breaks { sum.breaks < 2 ^ 62 }
@@ -22,7 +22,7 @@ fn with_piece(sum: PieceSum, piece: &Piece) -> PieceSum
     }
 }
 
-/// Whether what is sought stands in the pieces of which this is the sum.
+/// Returns whether pieces with this sum contain the target.
 fn is_within(sought: Sought, sum: PieceSum) -> bool
     ensures { result ≡ nat_lt (number_of sought) (counted sought sum) }
 {
@@ -32,7 +32,7 @@ fn is_within(sought: Sought, sum: PieceSum) -> bool
     }
 }
 
-/// The piece that has what is sought, where one of the run has it. Each piece that is read is a step: they are at most 16.
+/// Finds the piece that contains the target, which must be in the run. Each piece that is read is a step: at most 16.
 pub(crate) fn find_in<L>(
     run: NodeId,
     pieces: &[Piece],

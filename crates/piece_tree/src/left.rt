@@ -1,4 +1,4 @@
-//! What is left of pieces without their first units.
+//! The rest of some pieces after their first units are removed.
 ghost use Rattle.std.specs.Prelude.{◌≡◌, ◌≤◌, nat_lt, length};
 ghost use Rattle.std.specs.List.{All};
 ghost use Rattle.std.specs.Option.{ForSome};
@@ -8,19 +8,19 @@ ghost use Rattle.piece_tree.specs.Splicing.{IsLeft, count_left};
 use crate::piece::{Piece, piece_of};
 use chunk_buffers::Chunks;
 
-/// What is left of some pieces without their first units.
+/// The rest of some pieces after their first units are removed.
 #[derive(Clone, Copy)]
 pub(crate) struct Left {
-    /// What stays of a piece that is cut.
+    /// The rest of a piece that is cut, if one is.
     pub rest: Option<Piece>,
-    /// The place of the first piece that stays whole.
+    /// The index of the first piece that stays whole.
     pub from: usize,
-    /// How many more units were to go than the pieces have.
+    /// The number of units to remove beyond those of the pieces.
     pub missing: u64,
 }
 
 impl Left {
-    /// Whether anything is left of so many pieces.
+    /// Returns whether anything is left of `count` pieces.
     pub fn has_any(&self, count: usize) -> bool
         ensures { result ≡ nat_lt 0 (count_left self.now count) }
     {
@@ -28,7 +28,8 @@ impl Left {
     }
 }
 
-/// What is left of the pieces from a place on without their first units. Empty pieces before the units that stay go too.
+/// Returns what is left of the pieces from index `from` on without their first `units` units. Empty pieces before the first unit that stays
+/// go too.
 pub(crate) fn left_of(pieces: &[Piece], from: usize, units: u64, chunks: &Chunks) -> Left
     requires place { from ≤ length pieces.now }
     requires counted { All (IsPieceOf chunks.now.buffers) pieces.now }

@@ -6,40 +6,40 @@ ghost use Rattle.piece_tree.specs.Pieces.{piece_of, IsPieceOf, goes_on, prolonge
 use chunk_buffers::{ChunkSpan, Chunks};
 use raw_arena::NodeId;
 
-/// The name of a piece in its tree: the run that it lies in, and its place there. A splice may change it.
+/// The name of a piece in its tree: its run, and its place in the run. A splice may change it.
 #[derive(Clone, Copy, PartialEq, Eq, Debug)]
 pub struct PieceId {
     pub(crate) run: NodeId,
     pub(crate) place: u32,
 }
 
-/// A part of the text.
+/// A part of the text: a span of units, with its number of breaks.
 #[derive(Clone, Copy, PartialEq, Eq, Debug)]
 pub struct Piece {
     pub span: ChunkSpan,
-    /// How many breaks its units have.
+    /// The number of breaks of its units.
     pub breaks: u32,
 }
 
-/// What some pieces have together.
+/// The number of units and of breaks of some pieces together.
 #[derive(Clone, Copy, PartialEq, Eq, Debug)]
 pub struct PieceSum {
     pub units: u64,
     pub breaks: u64,
 }
 
-/// A piece that was looked up.
+/// A looked-up piece, with its name and the sum of the pieces before it.
 #[derive(Clone, Copy, PartialEq, Eq, Debug)]
 pub struct Found {
     pub id: PieceId,
     pub span: ChunkSpan,
-    /// How many breaks its units have.
+    /// The number of breaks of its units.
     pub breaks: u32,
-    /// What the pieces before it have.
+    /// The sum of the pieces before it.
     pub before: PieceSum,
 }
 
-/// The piece of a span.
+/// Returns the piece of a span, with its breaks counted.
 pub fn piece_of(chunks: &Chunks, span: ChunkSpan) -> Piece
     requires { LiesIn chunks.now.buffers span }
     ensures piece { result ≡ piece_of chunks.now.buffers span }
@@ -51,7 +51,7 @@ pub fn piece_of(chunks: &Chunks, span: ChunkSpan) -> Piece
     }
 }
 
-/// Whether the second span starts where the first one ends, in the same buffer.
+/// Returns whether the second span starts where the first one ends, in the same buffer.
 pub(crate) fn goes_on(first: ChunkSpan, second: ChunkSpan) -> bool
     ensures { result ≡ goes_on first second }
 {
@@ -60,7 +60,7 @@ pub(crate) fn goes_on(first: ChunkSpan, second: ChunkSpan) -> bool
         && second.start - first.start == first.units
 }
 
-/// The first span with the units of one that goes on from it.
+/// Returns the first span extended by the length of the second, which starts where the first ends.
 pub(crate) fn prolonged(first: ChunkSpan, second: ChunkSpan) -> ChunkSpan
     requires { first.units + second.units < 2 ^ 32 }
     ensures { result ≡ prolonged first second }

@@ -1,4 +1,4 @@
-//! Pieces that come in the place of some of a run.
+//! Replaces pieces of a run by others.
 ghost use Rattle.std.specs.Prelude.{◌≡◌, ◌+◌, ◌-◌, ◌<◌, ◌≤◌, ◌^◌, ◌∷◌, [], length};
 ghost use Rattle.std.specs.List.{All};
 ghost use Rattle.std.specs.Option.{ForSome};
@@ -16,10 +16,11 @@ use crate::runs::RunTree;
 use chunk_buffers::Chunks;
 use raw_arena::NodeId;
 
-/// A run of no more pieces is joined with the one behind it, where that is as small.
+/// A run of at most this many pieces is joined with the next one if that has at most this many too.
 const FEW_PIECES: usize = MOST_PIECES / 4;
 
-/// What stays on both sides and the piece between them. Where the piece goes on from what stays before it, the two are one piece.
+/// Returns the rests on both sides with the piece between them. If the piece starts where the left rest ends in the same buffer, the two
+/// become one piece.
 pub(crate) fn joined(
     left: Option<Piece>,
     piece: Option<Piece>,
@@ -48,8 +49,8 @@ pub(crate) fn joined(
     all
 }
 
-/// Puts pieces in the place of those of a run from one place to another, and tells the first of them, if any. A run that gets too
-/// long is split behind the place, so that the pieces in front keep their names.
+/// Replaces the pieces of a run from the place of `id` to `to` by others, and returns the first of these, if any. A run that gets too long
+/// is split behind the place, so that the pieces before it keep their names.
 pub(crate) fn put(
     runs: &mut RunTree,
     id: PieceId,
@@ -78,8 +79,7 @@ pub(crate) fn put(
     first_put(id, with)
 }
 
-/// The same where the run gets too long: what stands behind the place, and what comes where that does not fit either, goes into a
-/// new run.
+/// Does the same for a run that gets too long: the pieces from `to` on go into a new run, and so do the new pieces if they do not fit.
 fn put_and_split(
     runs: &mut RunTree,
     id: PieceId,
@@ -116,14 +116,14 @@ fn put_and_split(
     )
 }
 
-/// The first of the pieces that were put at a place.
+/// Returns the first of the pieces that were put at `id`, with its name; None if there are none.
 fn first_put(id: PieceId, with: &[Piece]) -> Option<(PieceId, Piece)>
     ensures { result ≡ first_put id with.now }
 {
     Some((id, *with.first()?))
 }
 
-/// Joins a run with the one right behind it, where both are small.
+/// Joins a run with the next one if both are small.
 fn join_next(runs: &mut RunTree, id: NodeId)
     requires named { IsItem runs.old.runs id }
     requires small { unit_count (pieces_in runs.old.runs) < 2 ^ 62 }
@@ -144,7 +144,7 @@ fn join_next(runs: &mut RunTree, id: NodeId)
     }
 }
 
-/// Takes that many units out that stand right after a run. Empty pieces before the units that stay go too.
+/// Removes `units` units right after a run. Empty pieces before the first unit that stays are removed too.
 pub(crate) fn remove_units(runs: &mut RunTree, after: NodeId, units: u64, chunks: &Chunks)
     requires pieces { HasPiecesBehind chunks.now.buffers runs.old.runs after }
     requires small { unit_count (pieces_in runs.old.runs) < 2 ^ 62 }
@@ -165,7 +165,7 @@ pub(crate) fn remove_units(runs: &mut RunTree, after: NodeId, units: u64, chunks
     }
 }
 
-/// Puts what is left of the pieces of a run in their place. That is something.
+/// Replaces the pieces of a run by what is left of them, which is at least one piece.
 fn keep_left(runs: &mut RunTree, id: NodeId, left: &Left)
     requires can { CanKeep runs.old.runs id left.now }
     requires counted { ForSome left.now.rest few_breaks }
@@ -181,7 +181,7 @@ fn keep_left(runs: &mut RunTree, id: NodeId, left: &Left)
     runs.replace_in(id, 0, left.from, with.pieces());
 }
 
-/// Puts a piece into a text with none, and tells it.
+/// Puts a piece into a text without pieces, and returns it as looked up.
 pub(crate) fn put_only(runs: &mut RunTree, piece: Piece) -> Found
     requires empty { pieces_in runs.old.runs ≡ [] }
     requires room { 0 < runs.old.spare }

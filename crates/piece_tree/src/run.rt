@@ -1,4 +1,4 @@
-//! A run: some pieces side by side, in one block.
+//! A run: adjacent pieces in one block.
 ghost use Rattle.std.specs.Prelude.{◌≡◌, ◌+◌, ◌-◌, ◌<◌, ◌≤◌, ◌++◌, [], length};
 ghost use Rattle.piece_tree.specs.Pieces.{listed, sum_of};
 ghost use Rattle.piece_tree.specs.Runs.{most_pieces, replaced, IsRun, listed_in};
@@ -9,7 +9,7 @@ use chunk_buffers::ChunkSpan;
 /// The most pieces of a run.
 pub const MOST_PIECES: usize = 16;
 
-/// What lies in the places of a run that no piece has.
+/// Fills the unused places of a run.
 const NO_PIECE: Piece = Piece {
     span: ChunkSpan {
         buffer: 0,
@@ -27,7 +27,7 @@ pub struct Run {
 }
 
 impl Run {
-    /// A run of no piece.
+    /// Returns an empty run.
     pub(crate) fn new() -> Run
         ensures run { IsRun result }
         ensures none { listed_in result ≡ [] }
@@ -38,7 +38,7 @@ impl Run {
         }
     }
 
-    /// A run of these pieces.
+    /// Returns a run of these pieces.
     pub(crate) fn of(pieces: &[Piece]) -> Run
         requires { length pieces.now ≤ most_pieces }
         ensures run { IsRun result }
@@ -49,7 +49,7 @@ impl Run {
         run
     }
 
-    /// The pieces in order.
+    /// Returns the pieces in order.
     pub(crate) fn pieces(&self) -> &[Piece]
         requires { IsRun self.now }
         ensures { result.now ≡ listed_in self.now }
@@ -57,7 +57,7 @@ impl Run {
         &self.pieces[..self.count]
     }
 
-    /// Puts a piece, if there is one, behind the others.
+    /// Appends a piece, if one is given.
     pub(crate) fn push_some(&mut self, piece: Option<Piece>)
         requires run { IsRun self.old }
         requires room { length (listed_in self.old) < most_pieces }
@@ -70,7 +70,7 @@ impl Run {
         }
     }
 
-    /// Puts pieces in the place of those between two places.
+    /// Replaces the pieces from index `from` to `to` by others.
     pub(crate) fn replace(&mut self, from: usize, to: usize, with: &[Piece])
         requires run { IsRun self.old }
         requires ordered { from ≤ to }
@@ -87,7 +87,7 @@ impl Run {
     }
 }
 
-/// What these pieces have together.
+/// Returns the sum of these pieces.
 pub(crate) fn sum_of(pieces: &[Piece]) -> PieceSum
     requires { length pieces.now ≤ most_pieces }
     ensures { result ≡ sum_of pieces.now }

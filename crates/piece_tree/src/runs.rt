@@ -1,5 +1,5 @@
-//! The runs of a text in a red-black tree, each with its sums. The pieces of a run lie beside the tree, in an arena, so that the nodes
-//! stay small and a run is changed where it lies.
+//! The runs of a text in a red-black tree, each with its sums. The pieces of a run are in an arena beside the tree, so that the nodes stay
+//! small and a run is changed in place.
 ghost use Rattle.std.specs.Prelude.{◌≡◌, ◌+◌, ◌-◌, ◌<◌, ◌≤◌, ◌≢◌, ◌^◌, ◌∷◌, ◌++◌, [], None, length, IfSome, MatchOption, OnOk};
 ghost use Rattle.std.specs.List.{All};
 ghost use Rattle.std.specs.Option.{ForNone};
@@ -18,8 +18,8 @@ use std::alloc::{AllocError, Global};
 use std::marker::Model;
 use steps::Steps;
 
-/// The runs in the order of the text. Contracts see the pieces of each, under its name, and for how many more runs there is room.
-/// No run is empty.
+/// The runs in the order of the text. Contracts see the pieces of each, under its name, and the number of further runs for which there is
+/// room. No run is empty.
 #[derive(Drop)]
 pub(crate) struct RunTree {
     tree: RbTree<RunWeave>,
@@ -38,7 +38,7 @@ impl Model for RunTree {
 }
 
 impl RunTree {
-    /// No run.
+    /// Returns a tree without runs.
     pub(crate) fn new(alloc: Global) -> RunTree
         ensures runs { result.runs ≡ [] }
         ensures spare { result.spare ≡ 0 }
@@ -49,7 +49,7 @@ impl RunTree {
         }
     }
 
-    /// Makes room for `count` more runs. It fails where memory is short.
+    /// Makes room for `count` more runs. Fails if memory is short.
     pub(crate) fn reserve(&mut self, count: u64) -> Result<(), AllocError>
         ensures runs { self.new.runs ≡ self.old.runs }
         ensures room { OnOk result (count ≤ self.new.spare) }
@@ -59,7 +59,7 @@ impl RunTree {
         self.tree.reserve(count)
     }
 
-    /// What all pieces have together.
+    /// Returns the sum of all pieces.
     pub(crate) fn sum(&self) -> PieceSum
         ensures sum { result ≡ sum_of (pieces_in self.now.runs) }
         ensures small { result.units < 2 ^ 62 }
@@ -67,21 +67,21 @@ impl RunTree {
         self.tree.sum()
     }
 
-    /// The name of the first run.
+    /// Returns the name of the first run.
     pub(crate) fn first(&self) -> Option<NodeId>
         ensures { result ≡ first_or None self.now.runs }
     {
         self.tree.first()
     }
 
-    /// The name of the last run.
+    /// Returns the name of the last run.
     pub(crate) fn last(&self) -> Option<NodeId>
         ensures { result ≡ last_or None self.now.runs }
     {
         self.tree.last()
     }
 
-    /// The name of the run after that one.
+    /// Returns the name of the run after this one; None after the last.
     pub(crate) fn next(&self, id: NodeId) -> Option<NodeId>
         requires { IsItem self.now.runs id }
         ensures { AtItem self.now.runs id (λ us x vs. result ≡ first_or None vs) }
@@ -89,7 +89,7 @@ impl RunTree {
         self.tree.next(id)
     }
 
-    /// The name of the run before that one.
+    /// Returns the name of the run before this one; None before the first.
     pub(crate) fn prev(&self, id: NodeId) -> Option<NodeId>
         requires { IsItem self.now.runs id }
         ensures { AtItem self.now.runs id (λ us x vs. result ≡ last_or None us) }
@@ -97,7 +97,7 @@ impl RunTree {
         self.tree.prev(id)
     }
 
-    /// The run of that name, which no other has. It is not empty, and none of its pieces has more breaks than units.
+    /// Returns the pieces of the run of this name. Names are unique, a run is not empty, and no piece has more breaks than units.
     pub(crate) fn get(&self, id: NodeId) -> &[Piece]
         requires { IsItem self.now.runs id }
         ensures run { AtItem self.now.runs id (λ us x vs. result.now ≡ x) }
@@ -110,7 +110,7 @@ impl RunTree {
         run.pieces()
     }
 
-    /// The run that has what is sought, and what the pieces before the run have. Each node that is visited is a step.
+    /// Finds the run that contains the target. Returns its name and the sum of the pieces before it. Each visited node is a step.
     pub(crate) fn find<L>(&self, sought: Sought, steps: &mut Steps<L>) -> (NodeId, PieceSum)
         requires { number_of sought < count_of sought (pieces_in self.now.runs) }
         ensures run { HasRunOf self.now.runs sought result }
@@ -123,7 +123,7 @@ impl RunTree {
         (found.0, found.2)
     }
 
-    /// Puts pieces in the place of those of a run between two places. The run keeps its name.
+    /// Replaces the pieces of a run from index `from` to `to` by others. The run keeps its name.
     pub(crate) fn replace_in(&mut self, id: NodeId, from: usize, to: usize, with: &[Piece])
         requires fits { CanReplaceIn self.old.runs id from to with.now }
         requires counted { All few_breaks with.now }
@@ -137,7 +137,7 @@ impl RunTree {
         self.tree.set(id, StoredRun { at, sum });
     }
 
-    /// Puts a run of these pieces right after that one.
+    /// Inserts a run of these pieces right after the named one, and returns its name.
     pub(crate) fn insert_after(&mut self, id: NodeId, pieces: &[Piece]) -> NodeId
         requires room { 0 < self.old.spare }
         requires named { IsItem self.old.runs id }
@@ -155,7 +155,7 @@ impl RunTree {
         self.tree.insert_after(id, run)
     }
 
-    /// Puts a run of these pieces before all others.
+    /// Inserts a run of these pieces before all others, and returns its name.
     pub(crate) fn insert_first(&mut self, pieces: &[Piece]) -> NodeId
         requires room { 0 < self.old.spare }
         requires some { 0 < length pieces.now }
@@ -172,7 +172,7 @@ impl RunTree {
         self.tree.insert_first(run)
     }
 
-    /// Takes the run of that name out. Its name is free again.
+    /// Removes the run of this name. The name may be used again.
     pub(crate) fn remove(&mut self, id: NodeId)
         requires { IsItem self.old.runs id }
         ensures runs { LeavesOut self.old.runs self.new.runs id }
@@ -183,7 +183,7 @@ impl RunTree {
         self.stored.take(at);
     }
 
-    /// A walk over the runs from that one on, or over none. It visits no node before it is asked for a run.
+    /// Returns a walk over the runs from the named one on; over no run for None. No node is visited before the first call of `next`.
     pub(crate) fn walk_from(&self, id: Option<NodeId>) -> RunWalk<'_>
         requires { IfSome id (IsItem self.now.runs) }
         ensures left { LeftFrom self.now.runs id result.left }
@@ -197,8 +197,8 @@ impl RunTree {
     }
 }
 
-/// A walk over the runs of a text in their order. Contracts see the runs that it has not told yet, and how many more steps than three
-/// for each of them it may still take.
+/// A walk over the runs of a text in their order. Contracts see the runs that are left, and `due`: the rest of the walk takes at most `due`
+/// steps more than three for each of them.
 #[derive(Drop)]
 pub(crate) struct RunWalk<'t> {
     walk: Walk<'t, RunWeave>,
@@ -217,7 +217,7 @@ impl<'t> Model for RunWalk<'t> {
 }
 
 impl<'t> RunWalk<'t> {
-    /// The next run with its name; None where all were told. Each node that is visited is a step.
+    /// Returns the next run with its name; None after the last one. Each visited node is a step.
     pub(crate) fn next<L>(&mut self, steps: &mut Steps<L>) -> Option<(NodeId, &'t [Piece])>
         ensures run { MatchOption result (self.old.left ≡ [])
             (λ told. self.old.left ≡ (told.0, told.1.now) ∷ self.new.left) }

@@ -3,14 +3,13 @@
 ghost use Rattle.std.specs.Prelude.{◌≡◌, ◌+◌, ◌-◌, ◌<◌, ◌≤◌, ◌^◌, ◌++◌, [], length, map, vec_len, vec_capacity, None, MatchOption, IfSome, IsTrue, OnOk, OnErr};
 ghost use Rattle.std.specs.List.{All};
 ghost use Rattle.std.specs.Option.{ForSome, ForNone, option_map};
-ghost use Rattle.piece_tree.specs.Pieces.{pieces_of, unit_count, break_count_of, listed, span_of, IsPieceOf, spliced, IsFound, IsStretch, AreNeighbours, IsAmong, AtEntry, StandsAt, first_of, last_of};
-ghost use Rattle.rb_arena.specs.Items.{BeginsWith};
+ghost use Rattle.piece_tree.specs.Pieces.{pieces_of, unit_count, break_count_of, listed, span_of, IsPieceOf, spliced, IsFound, IsStretch, AreNeighbours, IsAmong, AtEntry, StandsAt, first_of, BeginsWith};
 ghost use Rattle.piece_tree.specs.Costs.{WithinLookUps};
 ghost use Rattle.piece_tree.specs.Searches.{number_of, count_of, HasNumber};
 
 mod walking;
 
-use crate::beside::{found, last_piece, piece_after, piece_before};
+use crate::beside::{found, piece_after, piece_before};
 use crate::edits::replace_units;
 use crate::find::find_in;
 use crate::piece::{Found, Piece, PieceId, PieceSum};
@@ -23,13 +22,11 @@ use std::marker::Model;
 use steps::Steps;
 pub use walking::PieceWalk;
 
-/// The pieces of a text. Contracts see their list.
+/// The pieces of a text. Contracts see their list, and for how many splices there is room.
 #[derive(Drop)]
 pub struct PieceTree {
     runs: RunTree,
-    /// What all pieces have together.
-    whole: PieceSum,
-    /// For how many splices there is room.
+    /// The number of splices for which there is room.
     spare: u64,
 }
 
@@ -41,21 +38,21 @@ impl Model for PieceTree {
 
     ghost view = { λ t. record { entries = entries_of t.runs.runs; spare = t.spare } };
 
-    ghost invariant = { λ t. IsTree (pieces_in t.runs.runs) t.whole t.runs.spare t.spare };
+    ghost invariant = { λ t. IsTree (pieces_in t.runs.runs) t.runs.spare t.spare };
 }
 
-/// Pieces that lie side by side in one run.
+/// All pieces of one run.
 #[derive(Clone, Copy)]
 pub struct Stretch {
     /// The first of them.
     pub first: Found,
-    /// How many units they have.
+    /// Their number of units.
     pub units: u64,
-    /// How many they are.
+    /// The number of pieces.
     pub pieces: usize,
 }
 
-/// A piece's name and its span.
+/// Returns a piece's name and its span.
 fn with_span(at: Option<(PieceId, Piece)>) -> Option<(PieceId, ChunkSpan)>
     ensures { result ≡ option_map (λ at. (at.0, at.1.span)) at }
 {
@@ -70,15 +67,11 @@ impl PieceTree {
     {
         PieceTree {
             runs: RunTree::new(alloc),
-            whole: PieceSum {
-                units: 0,
-                breaks: 0,
-            },
             spare: 0,
         }
     }
 
-    /// Makes room for that many splices. An error leaves all as it was.
+    /// Makes room for `edits` splices. On an error nothing changes.
     pub fn reserve(&mut self, edits: u64) -> Result<(), AllocError>
         ensures ok { OnOk result (edits ≤ self.new.spare) }
         ensures same { self.new.entries ≡ self.old.entries }
@@ -93,30 +86,30 @@ impl PieceTree {
         Ok(())
     }
 
-    /// Whether there is room for a splice.
+    /// Returns whether there is room for a splice.
     pub fn has_room(&self) -> bool
         ensures { IsTrue result → 0 < self.now.spare }
     {
         0 < self.spare
     }
 
-    /// How many units the pieces have. It reads no node.
+    /// Returns the number of units of all pieces. It reads one node.
     pub fn len(&self) -> u64
         ensures sum { result ≡ unit_count (pieces_of self.now.entries) }
         ensures small { result < 2 ^ 62 }
     {
-        self.whole.units
+        self.runs.sum().units
     }
 
-    /// How many breaks the pieces have. It reads no node.
+    /// Returns the number of breaks of all pieces. It reads one node.
     pub fn breaks(&self) -> u64
         ensures sum { result ≡ break_count_of (pieces_of self.now.entries) }
         ensures small { result < 2 ^ 62 }
     {
-        self.whole.breaks
+        self.runs.sum().breaks
     }
 
-    /// The piece that has the unit at this offset. Each node that is visited is a step.
+    /// Finds the piece that has the unit at this offset. Each visited node is a step.
     pub fn find_offset<L>(&self, offset: u64, steps: &mut Steps<L>) -> Found
         requires { offset < unit_count (pieces_of self.now.entries) }
         ensures piece { IsFound self.now.entries result }
@@ -127,7 +120,7 @@ impl PieceTree {
         self.look_up(Sought::Offset(offset), steps)
     }
 
-    /// The piece that has the `n`-th break. Breaks count from 1. Each node that is visited is a step.
+    /// Finds the piece that has the `n`-th break. Breaks count from 1. Each visited node is a step.
     pub fn find_line<L>(&self, n: u64, steps: &mut Steps<L>) -> Found
         requires first { 0 < n }
         requires there { n ≤ break_count_of (pieces_of self.now.entries) }
@@ -140,7 +133,7 @@ impl PieceTree {
         self.look_up(Sought::Break(n - 1), steps)
     }
 
-    /// The piece that has what is sought. Each node that is visited is a step; in the run that it ends at, at most 16 pieces are read.
+    /// Finds the piece that contains the target. Each visited node is a step; the at most 16 pieces read in the found run are not counted.
     fn look_up<L>(&self, sought: Sought, steps: &mut Steps<L>) -> Found
         requires { number_of sought < count_of sought (pieces_of self.now.entries) }
         ensures piece { IsFound self.now.entries result }
@@ -153,7 +146,7 @@ impl PieceTree {
         find_in(run, pieces, before, sought, &mut Steps::new())
     }
 
-    /// The piece after the one of this name.
+    /// Returns the piece after the named one; None after the last.
     pub fn next(&self, id: PieceId) -> Option<(PieceId, ChunkSpan)>
         requires { IsAmong self.now.entries id }
         ensures { AtEntry self.now.entries id (λ earlier later. result ≡ first_of later) }
@@ -161,22 +154,7 @@ impl PieceTree {
         with_span(piece_after(&self.runs, id))
     }
 
-    /// The last piece; None where there is none.
-    pub fn last(&self) -> Option<(PieceId, ChunkSpan)>
-        ensures { result ≡ last_of self.now.entries }
-    {
-        with_span(last_piece(&self.runs))
-    }
-
-    /// The piece before the one of this name.
-    pub fn prev(&self, id: PieceId) -> Option<(PieceId, ChunkSpan)>
-        requires { IsAmong self.now.entries id }
-        ensures { AtEntry self.now.entries id (λ earlier later. result ≡ last_of earlier) }
-    {
-        with_span(piece_before(&self.runs, id))
-    }
-
-    /// The piece after a looked-up one, as a look-up tells it. It makes no search.
+    /// Returns the piece after a looked-up one, as a look-up would; None after the last. No search is made.
     pub fn next_found(&self, near: &Found) -> Option<Found>
         requires { IsFound self.now.entries near.now }
         ensures { (is : IsFound self.now.entries near.now)
@@ -190,7 +168,7 @@ impl PieceTree {
         Some(found(next, before))
     }
 
-    /// The piece before a looked-up one, as a look-up tells it. It makes no search.
+    /// Returns the piece before a looked-up one, as a look-up would; None before the first. No search is made.
     pub fn prev_found(&self, near: &Found) -> Option<Found>
         requires { IsFound self.now.entries near.now }
         ensures { (is : IsFound self.now.entries near.now)
@@ -204,7 +182,7 @@ impl PieceTree {
         Some(found(prev, before))
     }
 
-    /// The pieces that lie in one run with a looked-up one. It makes no search.
+    /// Returns the pieces that are in one run with a looked-up one. No search is made.
     pub fn stretch_of(&self, near: &Found) -> Stretch
         requires { IsFound self.now.entries near.now }
         ensures { IsStretch self.now.entries near.now result }
@@ -226,9 +204,9 @@ impl PieceTree {
         }
     }
 
-    /// Puts the piece in the place of `deleted` units from the offset on, where the piece that has the unit at the offset was looked
-    /// up; None at the end. It makes no search, and takes no memory. It tells the first of the pieces that it put in the place
-    /// of those that it touched, if any, as a look-up would tell it. Where a piece came, there is one.
+    /// Replaces `deleted` units from the offset on by the piece, if one is given. `at` is the piece of the unit at the offset, as looked
+    /// up; None at the end. Makes no search and allocates nothing. Returns the first of the pieces that replace those that were touched, as
+    /// a look-up would return it; None only if there is none, so never if `piece` is given.
     pub fn splice(
         &mut self,
         at: Option<Found>,
@@ -256,12 +234,11 @@ impl PieceTree {
         ensures spare { self.new.spare + 1 ≡ self.old.spare }
     {
         let first = replace_units(&mut self.runs, &at, offset, deleted, piece, chunks);
-        self.whole = self.runs.sum();
         self.spare -= 1;
         first
     }
 
-    /// Appends the spans of the pieces in their order. An error leaves `out` as it was.
+    /// Appends the spans of the pieces in their order. On an error `out` is unchanged.
     pub fn spans(&self, out: &mut Vec<ChunkSpan>) -> Result<(), AllocError>
         ensures ok { OnOk result (out.new.items
             ≡ out.old.items ++ map (λ p. p.span) (pieces_of self.now.entries)) }
@@ -275,7 +252,7 @@ impl PieceTree {
         Ok(())
     }
 
-    // Appends the spans of the pieces; after an error some of them.
+    // Appends the spans of the pieces; on an error possibly some of them.
     fn push_spans(&self, out: &mut Vec<ChunkSpan>) -> Result<(), AllocError>
         ensures ok { OnOk result (out.new.items
             ≡ out.old.items ++ map (λ p. p.span) (pieces_of self.now.entries)) }
@@ -289,7 +266,7 @@ impl PieceTree {
     }
 }
 
-// Appends the spans of some pieces; after an error some of them.
+// Appends the spans of these pieces; on an error possibly some of them.
 fn push_all(pieces: &[Piece], out: &mut Vec<ChunkSpan>) -> Result<(), AllocError>
     ensures ok { OnOk result (out.new.items ≡ out.old.items ++ map (λ p. p.span) pieces.now) }
     ensures err { OnErr result (BeginsWith out.old.items out.new.items) }

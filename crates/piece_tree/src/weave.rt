@@ -1,4 +1,4 @@
-//! What a tree keeps of its runs, and how it is searched.
+//! The items and sums of the tree of runs, and the search in it.
 ghost use Rattle.std.specs.Prelude.{◌≡◌, ⊤, Some, refl};
 ghost use Rattle.piece_tree.specs.Searches.{toward};
 
@@ -6,26 +6,26 @@ use crate::piece::PieceSum;
 use raw_arena::NodeId;
 use rb_rules::{Turn, Weave};
 
-/// What a search looks for: the one with that many before it.
+/// The target of a search: a unit or a break, given by the number of those before it.
 #[derive(Clone, Copy)]
 pub enum Sought {
-    /// A unit, so by its offset.
+    /// A unit, by its offset.
     Offset(u64),
-    /// A break. So breaks count from 0.
+    /// A break, by its index from 0.
     Break(u64),
 }
 
-/// A run as the tree keeps it: where its pieces are stored, and what they have together.
+/// A run as the tree keeps it: the node of its pieces in the arena, and their sum.
 #[derive(Clone, Copy)]
 pub struct StoredRun {
     pub at: NodeId,
     pub sum: PieceSum,
 }
 
-/// Runs, whose units and breaks add up.
+/// The weave of runs: their units and breaks are added up.
 pub struct RunWeave;
 
-/// Where a search for the one with `place` before it goes from `own` ones with `before` before them.
+/// Returns the turn of a search for index `place` at an item that holds `own` indices from `before` on.
 fn toward(place: u64, before: u64, own: u64) -> Turn
     ensures { result ≡ toward place before own }
 {

@@ -1,4 +1,4 @@
-//! Texts on which the lanes and the plain loops are compared.
+//! Compares the SIMD search for breaks with the plain loops on generated texts.
 
 use crate::plain;
 use line_starts::{count_breaks, find_starts};
@@ -10,10 +10,10 @@ const LINE_FEED: u16 = 10;
 
 const LETTER: u16 = 0x61;
 
-/// Texts of letters with one break, and one where breaks of all kinds come in any order.
+/// The kinds of texts to compare: letters with one break, and a pseudo-random mix of breaks.
 pub const TEXTS: [Kind; 4] = [Kind::Feed, Kind::Return, Kind::Pair, Kind::Mixed];
 
-/// What breaks a text has.
+/// The breaks of a generated text.
 #[derive(Clone, Copy)]
 pub enum Kind {
     Feed,
@@ -22,7 +22,7 @@ pub enum Kind {
     Mixed,
 }
 
-/// The unit at a place of the text whose break begins at `from`.
+/// Returns the unit at index `place` of a text whose break begins at index `from`. For `Mixed`, `from` is the seed.
 fn unit_at(kind: Kind, from: usize, place: usize) -> u16 {
     match kind {
         Kind::Feed if place == from => LINE_FEED,
@@ -33,7 +33,7 @@ fn unit_at(kind: Kind, from: usize, place: usize) -> u16 {
     }
 }
 
-/// A unit that looks as if drawn: a CR or an LF one time in four.
+/// Returns a pseudo-random unit: one in four is a CR or an LF.
 fn mixed_unit(seed: usize, place: usize) -> u16 {
     let mixed = (seed as u64)
         .wrapping_add(place as u64)
@@ -62,7 +62,8 @@ fn agree(alloc: Global, units: &[u16]) -> Result<bool, AllocError> {
     Ok(starts.as_slice() == plain.as_slice() && count_breaks(units) == breaks)
 }
 
-/// Whether both ways agree on the text of this length whose break begins at `from`.
+/// Returns whether both ways agree on the text of length `len` whose break begins at index `from`. For `Mixed`, `from`
+/// is the seed.
 pub fn agree_on_one(
     alloc: Global,
     kind: Kind,
@@ -72,7 +73,7 @@ pub fn agree_on_one(
     agree(alloc, text(alloc, kind, from, len)?.as_slice())
 }
 
-/// Whether both ways agree on each text of this length.
+/// Returns whether both ways agree on the texts of length `len` for each `from` below `len`.
 pub fn agree_on(alloc: Global, kind: Kind, len: usize) -> Result<bool, AllocError> {
     for from in 0..len {
         if !agree_on_one(alloc, kind, from, len)? {

@@ -1,4 +1,4 @@
-//! Breaks found one unit after another, to compare the lanes with.
+//! Finds line breaks one unit at a time, as a reference for the SIMD version.
 #![tactic(auto)]
 
 mod compare;

@@ -1,4 +1,4 @@
-//! One unit after another.
+//! Finds line breaks one unit at a time.
 
 use std::alloc::AllocError;
 
@@ -6,7 +6,7 @@ const CARRIAGE_RETURN: u16 = 13;
 
 const LINE_FEED: u16 = 10;
 
-// Whether a break ends with the unit at this place.
+// Returns whether a line break ends with the unit at index `at`.
 fn is_break_end(units: &[u16], at: usize) -> bool {
     match units.get(at) {
         Some(&LINE_FEED) => true,
@@ -15,7 +15,7 @@ fn is_break_end(units: &[u16], at: usize) -> bool {
     }
 }
 
-/// How many breaks the units have.
+/// Returns the number of line breaks in the units.
 pub fn count_breaks(units: &[u16]) -> u64 {
     let mut breaks = 0;
     for at in 0..units.len() {
@@ -26,7 +26,7 @@ pub fn count_breaks(units: &[u16]) -> u64 {
     breaks
 }
 
-/// Appends the start of each line.
+/// Appends the start offset of each line.
 pub fn find_starts(units: &[u16], out: &mut Vec<u64>) -> Result<(), AllocError> {
     out.push(0)?;
     for at in 0..units.len() {

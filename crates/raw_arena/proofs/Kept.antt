@@ -1,4 +1,4 @@
--- Each call leaves an arena's slots as they must be.
+-- Each call keeps the invariant of an arena's slots.
 use Rattle.std.proofs.Common.{◌≡◌, ℕ, ◌+◌, ◌-◌, ◌<◌, ◌==◌, ◌^◌, Bool, true, false, cond, List, [], ◌∷◌, ◌++◌, Option, Some, None, length, get_or, set, refl, sym, ap, ◌∙◌, subst, arith, inl, inr, lit≤, lit<, eq-eqb, ◌↔◌, IsSome}
 use Rattle.std.specs.List.{All, IsDistinct, slice_get}
 use Rattle.std.specs.Ordering.{nat_cmp}
@@ -39,11 +39,11 @@ module _ {X : Type 0} where
   }
 
   module _ (slots : List X) where
-    -- a name that answers is that of a slot that is not free
+    -- a name with a live value is that of a slot that is not free
     used : (free : List ℕ) (n : ℕ) (x : X) → map.get (live_of slots free) n ≡ Some x → (is_free free n ≡ false) × (slice_get slots n ≡ Some x) × (n < length slots)
     used free n x e = let both = some_of (is_free free n) (slice_get slots n) x (sym (live_is slots free n) ∙ e) in (both.0, both.1, slice_get_within slots n x both.1)
 
-    -- what a call knows of the slot n of a live name, and of the value that it reads there
+    -- facts about the slot n of a live name, and the value read there
     pub found : (free : List ℕ) (live : map.FinMap nat_cmp X) (id n : ℕ) (x : X) → live_of slots free ≡ live → n ≡ id → map.get live id ≡ Some x
         → (n < length slots) × (map.get (live_of slots free) n ≡ Some x) × ((y : X) → slice_get slots n ≡ Some y → map.get live id ≡ Some y)
     found free live id n x is same e =
@@ -51,7 +51,7 @@ module _ {X : Type 0} where
         let at = used free n x here in
         (at.2, here, λ y read. e ∙ sym at.1 ∙ read)
 
-    -- the last of the numbers is that of no other
+    -- the last of the free slots occurs once in the list
     module _ (left : List ℕ) (n : ℕ) (h : AreFree slots (left ++ n ∷ [])) where
       longer : length (left ++ n ∷ []) ≡ length left + 1
       longer = length-append left (n ∷ [])
@@ -79,7 +79,7 @@ module _ {X : Type 0} where
       was_free : is_free (left ++ n ∷ []) n ≡ true
       was_free = let l = longer in list_any_at (λ m. n == m) (left ++ n ∷ []) (length left) 0 (omega arith) (ap (λ k. n == k) (get_or-append_seam left n [] 0) ∙ eq-eqb n n refl)
 
-      -- its name is new
+      -- the name of the value is new
       pub no_name : map.get (live_of slots (left ++ n ∷ [])) n ≡ None
       no_name = live_is slots (left ++ n ∷ []) n ∙ ap (λ b. cond b None (slice_get slots n)) was_free
 
@@ -111,7 +111,7 @@ module _ {X : Type 0} where
       pub rewritten_live : (w : X) → live_of (set slots n w) free ≡ map.insert (live_of slots free) n w
       rewritten_live w = let use_ = used free n x live in live_set slots free n w use_.0 use_.2
 
-      -- what a write through a `&mut` to the value leaves
+      -- the effect of a write through a `&mut` to the value
       pub lent : (w : X) (limit : ℕ) → let other = set slots n w in
           ◌≡◌ {A = Nodes X} (nodes (live_of other free) (length free + (limit - length other))) (nodes (map.insert (live_of slots free) n w) (length free + (limit - length slots)))
       lent w limit = let long = length-set slots n w in λ i. nodes (rewritten_live w i) (length free + (limit - long i))
@@ -152,7 +152,7 @@ module _ {X : Type 0} where
       room = h.room;
     }
 
-    -- a slot is filled that was given back
+    -- a free slot is filled
     module _ (left : List ℕ) (n : ℕ) (was : free ≡ left ++ n ∷ []) where
       last : AreFree slots (left ++ n ∷ [])
       last = subst (AreFree slots) was h.given_back
@@ -170,7 +170,7 @@ module _ {X : Type 0} where
       pub refilled_is : (x : X) → live_of (set slots n x) left ≡ map.insert (live_of slots free) n x
       refilled_is x = refilled_live slots left n last x ∙ sym (ap (λ l. map.insert (live_of slots l) n x) was)
 
-    -- a slot is filled that was never used, where none is free
+    -- if no slot is free, an unused slot is filled
     module _ (left : List ℕ) (variant : IsSome {T = ℕ} None ↔ (0 < length free)) (was : free ≡ left ++ []) where
       none_free : free ≡ []
       none_free = elim (cases_lt 0 (length free)) [

@@ -44,7 +44,7 @@ module _ {X : Type 0} where
   kept_if true o = refl
   kept_if false o = refl
 
-  -- a name has the value of its slot, unless the slot is free
+  -- a name has the value of its slot, unless that slot is free
   pub live_is : (slots : List X) (free : List ℕ) (q : ℕ) → map.get (live_of slots free) q ≡ cond (is_free free q) None (slice_get slots q)
   unfolding live_of
   live_is slots free q =
@@ -92,7 +92,7 @@ module _ {X : Type 0} where
     none_if_either false true o = refl
     none_if_either false false o = refl
 
-    -- a slot that is given back is live no more
+    -- a slot that was freed is no longer live
     pub live_taken : (free : List ℕ) (n : ℕ) → live_of slots (free ++ n ∷ []) ≡ map.remove (live_of slots free) n
     live_taken free n = same_live slots (free ++ n ∷ []) (map.remove (live_of slots free) n) (λ q.
         let gone : map.get (map.remove (live_of slots free) n) q ≡ cond (q == n) None (cond (is_free free q) None (slice_get slots q)) =
@@ -119,7 +119,7 @@ module _ {X : Type 0} where
       pub live_set : n < length slots → live_of (set slots n x) free ≡ map.insert (live_of slots free) n x
       live_set fits = live_at (set slots n x) (set_same slots n x fits) (λ q ne. set_other slots n x q ne)
 
-    -- a slot is filled that was given back last
+    -- the slot freed last is filled
     pub live_refilled : (left : List ℕ) (n : ℕ) (x : X) → is_free left n ≡ false → n < length slots → live_of (set slots n x) left ≡ map.insert (live_of slots (left ++ n ∷ [])) n x
     live_refilled left n x unused fits =
         live_set left n x unused fits

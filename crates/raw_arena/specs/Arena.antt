@@ -1,10 +1,10 @@
--- What a contract sees of an arena.
+-- The value of an arena in a contract.
 use Rattle.std.specs.Prelude.{◌≡◌, ℕ, Option, Some, refl}
 use Rattle.std.specs.Coded.{Coded, code_by, coded×, coded_ℕ}
 use Rattle.std.specs.Ordering.{nat_cmp}
 use Rattle.std.specs.FinMap as map
 
--- the live values by their names, and for how many more there is room
+-- the live values by name, and the number of further values for which there is room
 pub record Nodes (X : Type 0) : Type 0 where
   pub live : map.FinMap nat_cmp X
   pub spare : ℕ
@@ -21,6 +21,6 @@ module _ {X : Type 0} where
   abbrev pub node : Nodes X → ℕ → Option X
   node a id = map.get a.live id
 
-  -- the name is that of a live value
+  -- there is a live value with that name
   abbrev pub IsLive : Nodes X → ℕ → Type 0
   IsLive a id = (x : X) × (node a id ≡ Some x)

@@ -1,4 +1,4 @@
--- Which name a link's number stands for: 0 for none, and each other number for the one before it.
+-- The name of a link's number: 0 means no name, and n + 1 the name n.
 use Rattle.std.specs.Prelude.{◌≡◌, ℕ, zero, suc, Option, Some, None, refl}
 
 abbrev pub name_before : ℕ → Option ℕ

@@ -1,4 +1,4 @@
-//! The arena: slots in pages, and the numbers of those that were given back.
+//! The arena: slots in pages, and a list of free slots.
 ghost use Rattle.std.specs.Prelude.{◌≡◌, ◌+◌, ◌^◌, ◌<◌, ◌≤◌, Some, None, IfOk, OnOk, OnErr};
 ghost use Rattle.std.specs.FinMap as map;
 ghost use Rattle.std.specs.Borrow.{sem};
@@ -10,18 +10,18 @@ use std::alloc::{AllocError, Global};
 use std::marker::Model;
 use steps::Steps;
 
-/// At most so many slots, so that one more than the number of each has 32 bits.
+/// Upper bound for the number of slots, so that the number of a slot plus one fits into 32 bits.
 const MOST: usize = u32::MAX as usize;
 
-/// Values of one type, each under a name of its own. The name is the number of a slot, and a slot is the value and
-/// nothing else: one that was given back keeps what lay there until it is filled again. No value is ever moved.
+/// An arena of values of one type, each under its own name. The name is the number of a slot. A slot holds the value and nothing else; a
+/// free slot keeps its old content until it is filled again. No value is ever moved.
 ///
-/// A contract sees the live values as a finite map from their names, and for how many more there is room.
+/// A contract sees the live values as a finite map from their names, and the number of further values for which there is room.
 #[derive(Drop)]
 pub struct Arena<T: Copy> {
     slots: PagedList<T>,
     free: PagedList<u32>,
-    /// There is room for so many slots, and to give each of them back.
+    /// Upper bound for the number of slots. Both lists have room for as many entries.
     limit: usize,
 }
 
@@ -39,7 +39,7 @@ impl<T: Copy> Model for Arena<T> {
     ghost invariant = { fields_hold };
 }
 
-/// A limit that is higher by `more`.
+/// Adds `more` to a limit. Fails if the result would be 2^32 or more.
 fn raised(limit: usize, more: u64) -> Result<usize, AllocError>
     requires { limit < 2 ^ 32 }
     ensures enough { IfOk result (λ n. (limit + more ≤ n) × (n < 2 ^ 32)) }
@@ -54,7 +54,7 @@ fn raised(limit: usize, more: u64) -> Result<usize, AllocError>
 impl<T: Copy> Arena<T> {
     ghost use Rattle.raw_arena.specs.NodeLends.{lends_node};
 
-    /// An arena with no value and no room.
+    /// Makes an arena without values and without room.
     pub fn new(alloc: Global) -> Arena<T>
         ensures { result ≡ nodes map.empty 0 }
     {
@@ -65,7 +65,8 @@ impl<T: Copy> Arena<T> {
         }
     }
 
-    /// Makes room for `count` more values. It fails where memory is short, or where there would be 2^32 slots.
+    /// Makes room for `count` more values. Fails if memory is short, or if 2^32 or more slots would be needed. No room is lost on
+    /// failure.
     pub fn reserve(&mut self, count: u64) -> Result<(), AllocError>
         ensures live { self.new.live ≡ self.old.live }
         ensures room { OnOk result (count ≤ self.new.spare) }
@@ -82,14 +83,14 @@ impl<T: Copy> Arena<T> {
         Ok(())
     }
 
-    /// For how many more values there is room.
+    /// Returns the number of further values for which there is room.
     pub fn spare(&self) -> u64
         ensures { result ≡ self.now.spare }
     {
         (self.free.len() + (self.limit - self.slots.len())) as u64
     }
 
-    /// Puts a value in, under a name that no live value has.
+    /// Adds a value and returns its name, which no live value has.
     pub fn put(&mut self, item: T) -> NodeId
         requires { 0 < self.old.spare }
         ensures new_name { node self.old result ≡ None }
@@ -106,7 +107,7 @@ impl<T: Copy> Arena<T> {
         NodeId::new(slot)
     }
 
-    /// Takes a value out. Its name may be given to another from now on.
+    /// Removes a value and returns it. Its name may be given to another value afterwards.
     pub fn take(&mut self, id: NodeId) -> T
         requires { IsLive self.old id }
         ensures value { node self.old id ≡ Some result }
@@ -118,7 +119,8 @@ impl<T: Copy> Arena<T> {
         *self.slots.get(slot as usize)
     }
 
-    /// The value of that name. It counts as one step.
+    /// Returns the value with the name `id`. Counts one step.
+    #[inline(always)]
     pub fn visit<L>(&self, id: NodeId, steps: &mut Steps<L>) -> &T
         requires { IsLive self.now id }
         ensures value { node self.now id ≡ Some result.now }
@@ -128,7 +130,7 @@ impl<T: Copy> Arena<T> {
         self.slots.get(id.slot() as usize)
     }
 
-    /// The value of that name, to write to. It counts as one step.
+    /// Returns the value with the name `id` for writing. Counts one step.
     pub fn visit_mut<L>(&mut self, id: NodeId, steps: &mut Steps<L>) -> &mut T
         requires { IsLive self.old id }
         ensures* writes_back { sem 𝓛 (lends_node T.row self.entry id result) }

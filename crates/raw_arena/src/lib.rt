@@ -1,4 +1,4 @@
-//! An arena: values of one `Copy` type in pages of raw memory, each under a name that stays its own until it is taken out.
+//! An arena: values of one `Copy` type in pages of raw memory, each under its own name until it is removed.
 #![tactic(auto)]
 
 mod arena;

@@ -1,4 +1,4 @@
-//! The names of an arena's values.
+//! Names of the values in an arena.
 ghost use Rattle.std.specs.Prelude.{◌≡◌, ◌+◌, ◌^◌, ◌<◌, ◌==◌};
 
 use std::marker::Model;
@@ -6,7 +6,7 @@ use std::marker::Model;
 /// The name of a value in an arena. A contract sees it as a number.
 #[derive(Clone, Copy, PartialEq, Eq, PartialOrd, Ord, Hash, Debug)]
 pub struct NodeId {
-    /// One more than the number, so that a `Link` has 0 for no name.
+    /// Number of the slot plus one, so that 0 in a `Link` means no name.
     next: u32,
 }
 
@@ -26,7 +26,7 @@ impl Model for NodeId {
 }
 
 impl NodeId {
-    /// Whether the two names are one.
+    /// Returns true if the two names are equal.
     pub fn is(self, other: NodeId) -> bool
         ensures { result ≡ (self == other) }
     {
@@ -47,10 +47,10 @@ impl NodeId {
     }
 }
 
-/// A name or none, in four bytes. A contract sees it as that.
+/// An optional name in four bytes. A contract sees it as an `Option`.
 #[derive(Clone, Copy)]
 pub struct Link {
-    /// One more than the number of the name, or 0 for none.
+    /// Number of the slot plus one, or 0 for no name.
     next: u32,
 }
 
@@ -71,7 +71,7 @@ impl Model for Link {
 }
 
 impl Link {
-    /// The link to that name, or to none.
+    /// Makes a link from a name or None.
     pub fn of(name: Option<NodeId>) -> Link
         ensures { result ≡ name }
     {
@@ -81,7 +81,7 @@ impl Link {
         }
     }
 
-    /// The name that is linked to.
+    /// Returns the name of the link, or None.
     pub fn name(self) -> Option<NodeId>
         ensures { result ≡ self }
     {

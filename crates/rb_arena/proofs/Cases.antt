@@ -1,4 +1,4 @@
--- How a red node stands to the nodes above it, read from the slots.
+-- The position of a red node, read from the slots.
 use Rattle.std.proofs.Common.{◌≡◌, ℕ, Bool, true, false, cond, Option, Some, None, refl, sym, ap, ◌∙◌}
 use Rattle.std.proofs.lemmas.Option.{none-some}
 use Rattle.std.specs.Option.{unwrap_or}
@@ -17,7 +17,7 @@ use Rattle.rb_arena.specs.Nodes.{slot_of}
 use Rattle.rb_arena.proofs.Slots.{child-slot}
 
 module _ {D : Type 0} where
-  -- the name of a tree's topmost node, if that is red
+  -- the name of a tree's root if it is red
   abbrev pub red_name : Tree D → Option ℕ
   red_name tip = None
   red_name (fork true i d x y) = Some i
@@ -39,7 +39,7 @@ module _ {D : Type 0} where
   red_is m p (fork false i d x y) (e, a, b) = ap (λ o. elim o [ None ↦ None | Some s ↦ cond s.red (Some i) None ]) e
 
   module _ (m : map.FinMap nat_cmp (Slot D)) (root : Option ℕ) (s : Spot D) (i : ℕ) (h : Made s.beside m root (plug s.hole (here s i))) where
-    -- a red child, as it is read
+    -- the red child, as it is read
     pub red_there : (side : Side) → red_child_in m i side ≡ red_name (below side s)
     red_there side =
         ap (λ o. elim o [ None ↦ None | Some n ↦ red_in m (child side n) ]) (slot_here m root s i h) ∙ ap (red_in m) (child-slot side s) ∙ red_is m (Some i) (below side s) (makes_below m root s i h side)
@@ -47,7 +47,7 @@ module _ {D : Type 0} where
     pub has_child : (side : Side) → HasChild m i side
     has_child side = (slot_of s, slot_here m root s i h, rw (child-slot side s) (live_below m root s i h side))
 
-  -- the red sibling of a node's parent, by the links of the grandparent
+  -- the red sibling of a node's parent, from the links of the grandparent
   pub red_child_is : (m : map.FinMap nat_cmp (Slot D)) (root : Option ℕ) (s : Side) (c : Bool) (g : ℕ) (d : D) (u : Tree D) (k : Hole D) (t : Tree D)
       → {beside : Tree D} → Made beside m root (plug (on s c g d u k) t) → red_child_in m g (other s) ≡ red_name u
   red_child_is m root s c g d u k t h =

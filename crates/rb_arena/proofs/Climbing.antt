@@ -1,4 +1,4 @@
--- A search among the items after a node, by where it stands on its way up.
+-- A search among the items after a node, from its position on the way up.
 use Rattle.std.proofs.Common.{◌≡◌, ℕ, ◌+◌, ◌-◌, ◌*◌, ◌^◌, ◌≤◌, Bool, List, [], ◌∷◌, ◌++◌, Option, Some, None, refl, sym, ap, ◌∙◌, subst, arith, append_assoc, inl, inr, lit<, pow-add}
 use Rattle.std.proofs.Math.Nat.{mul-le-mul, pow-le-pow_right, pow-suc, pow-zero, one-mul}
 use Rattle.std.specs.Prelude.{IfSome}
@@ -36,8 +36,8 @@ module _ {X S B Key : Type 0} (w : Weaving X S B) (turn : Key → S → X → Tu
   asked_last us ts vs None none e = (e, none)
   asked_last us ts vs (Some f) none h = inl h
 
-  -- The search has climbed to the hole `upper`; it has passed the items `earlier`, and would go down into `subtree`, behind which only
-  -- those after the hole stand. It has passed n nodes, of no more than deep.
+  -- The search has climbed to the hole `upper` and passed the items `earlier`. It would go down into `subtree`, after which only the
+  -- items after the hole follow. It has passed n nodes; together with those above the hole they are at most `deep`.
   pub record Climb (whole : Tree (Data X S B)) (items : List (ℕ × X)) (deep : ℕ) (at : Option (ℕ × Side)) (by : B) (s : Standing X S B) (n : ℕ) : Type 0 where
     pub upper : Hole (Data X S B)
     pub lower : Tree (Data X S B)
@@ -56,7 +56,7 @@ module _ {X S B Key : Type 0} (w : Weaving X S B) (turn : Key → S → X → Tu
     pub before_is : s.before ≡ sum_of w earlier
     pub asked : AskedBefore w turn key earlier s.last
 
-  -- at the node whose right subtree is searched first
+  -- the position at the node whose right subtree is searched first
   pub climb_starts : (p : Spot (Data X S B)) (id : ℕ) (at : Option (ℕ × Side)) (by : B) (slot : Slot (Data X S B)) (shift : B) (none : S) → at ≡ place_of p.hole → by ≡ shift_at w p.hole → slot.right ≡ root_of p.right
       → slot.«data» ≡ p.datum → shift ≡ w.plus by slot.«data».delta → none ≡ w.none
       → Climb (plug p.hole (here p id)) (items_after w p) (depth p.hole) at by (record { at = slot.right; by = shift; before = none; last = None }) 0
@@ -84,7 +84,7 @@ module _ {X S B Key : Type 0} {w : Weaving X S B} {turn : Key → S → X → Tu
   abbrev within : List (ℕ × X)
   within = entries w (shift_at w c.hole) c.subtree
 
-  -- no node stands above, and the search goes down
+  -- at the root: the search goes down
   pub climb_ends : at ≡ None → StandsIn w turn key whole items s
   climb_ends over =
       let none : rights w c.hole ≡ [] = c.beyond ∙ ap (rights w) (hole_top c.upper (sym c.place_is ∙ over)) in record {
@@ -123,7 +123,7 @@ slot_of m root p id slot made found = ap (λ o. unwrap_or o slot) (sym found ∙
 pub shallow : {D : Type 0} (p : Spot D) (id : ℕ) → height (plug p.hole (here p id)) ≤ 126 → depth p.hole ≤ 128
 shallow p id le = let deep = depth_height p.hole (here p id) in omega (arith, deep, le)
 
--- the steps of both ways up
+-- the steps of the two walks up
 pub both_ways : {D : Type 0} (p : Spot D) (id start mid seen now n : ℕ) → mid - start ≤ depth p.hole → seen ≡ mid + 1 → now ≡ seen + n → n ≤ depth p.hole → now - start ≤ 2 * height (plug p.hole (here p id))
 both_ways p id start mid seen now n cost one is few = let deep = depth_height p.hole (here p id) in omega (arith, deep, cost, one, is, few)
 
@@ -159,7 +159,7 @@ module _ {X S B Key : Type 0} {w : Weaving X S B} (L : Lawful w) (is_near : B �
         let (b, (d, x, k, is)) = hole_on c.upper a.0 a.1 (sym c.place_is ∙ e) in
         (_, slot_above tree.nodes.live tree.root a.1 b a.0 d x k c.lower (made_at (on a.1 b a.0 d x k) c.lower (ap (λ l. plug l c.lower) (sym is) ∙ c.climbed)))
 
-    -- where it stands, by its side of the hole
+    -- the position, by the side of the node on which the hole is
     module _ (p : ℕ) (z : Side) (is_at : at ≡ Some (p, z)) (slot : Slot (Data X S B)) (found : map.get tree.nodes.live p ≡ Some slot) where
       pub record Upper : Type 0 where
         pub red : Bool
@@ -253,7 +253,7 @@ module _ {X S B Key : Type 0} {w : Weaving X S B} (L : Lawful w) (is_near : B �
       pub held_past : HeldSum w is_near is_sum is_value (past_subtree w tree s)
       held_past = held w L is_near is_item is_sum is_value sums parts w.still _ us near (L.shift_sum_still _ ∙ past_is) values_there
 
-    -- a node after the hole
+    -- a node that comes after the hole
     module _ (p : ℕ) (is_at : at ≡ Some (p, Left)) (slot : Slot (Data X S B)) (found : map.get tree.nodes.live p ≡ Some slot) where
       abbrev rest : Upper p Left is_at slot found → List (ℕ × X)
       rest u = entries w (w.plus (shift_at w u.up) u.datum.delta) u.far ++ rights w u.up
@@ -284,7 +284,7 @@ module _ {X S B Key : Type 0} {w : Weaving X S B} (L : Lawful w) (is_near : B �
             let u = upper_there p Left is_at slot found in
             (w.still, near, subst is_near (sym (still_plus w L _ ∙ by_far u)) (near_of w L is_near (w.plus (shift_at w u.up) u.datum.delta) u.far (woven_in u.up (forked Left u.red p u.datum c.lower u.far) u.whole_is).3))
 
-      -- with its item and the sum of those before it
+      -- its item, and the sum of the items before it
       module _ (item : X) (sum : S) (is_item : item ≡ own) (is_sum : sum ≡ past_subtree w tree s) where
         sum_is : sum ≡ sum_of w us
         sum_is = is_sum ∙ past_is
@@ -354,7 +354,7 @@ square_is k = pow-suc k 1 ∙ ap (λ z. z * k) (pow-suc k 0 ∙ ap (λ z. z * k)
 follow : (a b c d e : ℕ) → a ≤ b → b ≡ c → c ≤ d → e ≡ d → a ≤ e
 follow a b c d e ab bc cd ed = omega (arith, ab, bc, cd, ed)
 
--- three times the longest path
+-- three times the number of nodes on the longest path
 pub thrice : (n h k : ℕ) → n ≤ 3 * h → 2 ^ h ≤ k * k → 2 ^ n ≤ k ^ 6
 thrice n h k le few =
     let p = 2 ^ h in let q = k * k in

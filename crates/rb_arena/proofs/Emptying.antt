@@ -1,4 +1,4 @@
--- A tree that a leaf has left: its sums are renewed, and its gap is closed.
+-- A tree after the removal of a leaf: its sums are recomputed and its gap is closed.
 use Rattle.std.proofs.Common.{◌≡◌, ℕ, ◌++◌, Bool, true, false, Option, ap, ◌∙◌}
 use Rattle.rb_rules.specs.declared.slot.Data.{Data}
 use Rattle.rb_rules.specs.declared.slot.Side.{Side}
@@ -21,13 +21,13 @@ module _ {W X S B K : Type 0} (w : Ghosts W X S B K) (old : Links (Data X S B)) 
   slack_there l reach beside k h from is =
       slack_empty w.weaving l.laws (w.within reach) w.is_item w.is_sum w.is_value l.sums l.parts l.thins beside old.nodes.live old.root at red k h from (is ∙ ap above_place h.0 ∙ above-place k)
 
-  -- a tree that is emptied at a place, by its hole
+  -- a tree after the removal of a leaf from a hole
   pub emptied_at : LawsOf w → (reach : B) (beside : Tree (Data X S B)) (k : Hole (Data X S B))
       → Emptied w.weaving (w.within reach) w.is_item w.is_value beside old.nodes.live old.root at red k → IsEmptied w old at red
   unfolding IsEmptied
   emptied_at l reach beside k h = (l, (reach, (beside, (k, h))))
 
-  -- it is right but for the nodes above
+  -- its sums are right except in the nodes above the hole
   pub emptied_slack : (from : Option ℕ) → IsEmptied w old at red → from ≡ above_place at → IsSlackFrom w old from 128
   unfolding IsEmptied IsSlackFrom
   emptied_slack from (l, (reach, (beside, (k, h)))) is = (reach, (beside, (_, slack_there l reach beside k h from is)))

@@ -1,4 +1,4 @@
--- One step of the closing of a gap: what each case does to the tree.
+-- One step in closing a gap: the effect of each case on the tree.
 use Rattle.std.proofs.Common.{◌≡◌, ℕ, suc, ◌+◌, ◌-◌, ◌≤◌, Bool, true, false, List, Option, Some, None, refl, sym, ap, ◌∙◌, subst, arith}
 use Rattle.std.specs.Prelude.{IfSome}
 use Rattle.std.specs.Option.{unwrap_or}
@@ -69,13 +69,13 @@ module _ {D : Type 0} where
 
 module _ {X S B : Type 0} (w : Weaving X S B) (L : Lawful w) (is_near : B → Type 0) (is_item : X → Type 0) (is_value : S → Type 0) where
   module _ (beside : Tree (Data X S B)) (m : map.FinMap nat_cmp (Slot (Data X S B))) (root : Option ℕ) (es : List (ℕ × X)) where
-    -- nothing is left to do at the top
+    -- at the root the gap is closed
     pub at_top : (at : Option (ℕ × Side)) (n : ℕ) → Short w is_near beside m root es at n → Closing w is_near beside m root es at n
     at_top (Some at) n r = r
     at_top None n r =
         (plug r.hole r.subtree, r.made, r.lists, subst (λ l. Balanced (plug l r.subtree)) (sym (hole_top r.hole (sym r.there))) (r.black, (false, r.even)))
 
-    -- the gap at a node p, whose child on the other side is q
+    -- the gap below a node p, whose child on the other side is q
     pub record Gap (p : ℕ) (s : Side) (q n : ℕ) (b : Bool) (out mid : Tree (Data X S B)) : Type 0 where
       pub red : Bool
       pub datum : Data X S B
@@ -142,7 +142,7 @@ module _ {X S B : Type 0} {w : Weaving X S B} {L : Lawful w} {is_near : B → Ty
       abbrev Around_it : Hole (Data X S B)
       Around_it = on (other s) g.red p g.datum g.under g.hole
 
-      -- the same tree, by the node's other side, and by the brother's
+      -- the same tree, by the node's other side and by that of the brother
       sideways : Made beside m root (plug g.hole (forked (other s) g.red p g.datum (forked (other s) b q g.brother out mid) g.under))
       sideways = subst (λ t. Made beside m root (plug g.hole t)) (sym (forked-other s g.red p g.datum (forked (other s) b q g.brother out mid) g.under)) g.made
 
@@ -155,7 +155,7 @@ module _ {X S B : Type 0} {w : Weaving X S B} {L : Lawful w} {is_near : B → Ty
       pub can_turn_parent : Valued w is_item is_value es → CanTurnAt w is_near is_item is_value m root p (other s)
       can_turn_parent v = can_turn_at w L is_near is_item is_value beside m root es g.hole g.red b p q g.datum g.brother out mid g.under (other s) sideways lists_sideways v
 
-      -- the colour of the brother, and of its children, as they are read
+      -- the colours of the brother and of its children, as they are read
       pub brother_slot : map.get m q ≡ Some (sided (other s) (Some p) (root_of out) (root_of mid) b g.brother)
       brother_slot = slot_above m root (other s) b q g.brother mid Around_it out sideways
 
@@ -178,7 +178,7 @@ module _ {X S B : Type 0} {w : Weaving X S B} {L : Lawful w} {is_near : B → Ty
             (_, brother_slot, subst (λ o. IfSome o (Live m)) (sym there) mids),
           )
 
-      -- after a turn of the node towards the gap
+      -- after a rotation of the node towards the gap
       module _ {m2 : map.FinMap nat_cmp (Slot (Data X S B))} {root2 : Option ℕ} (done : AtSpot m root p (λ sp. TurnedAt w is_near m2 root2 p (other s) sp)) where
         abbrev Turned_at : Type 0
         Turned_at = (low : Data X S B) × ((high : Data X S B)
@@ -197,7 +197,7 @@ module _ {X S B : Type 0} {w : Weaving X S B} {L : Lawful w} {is_near : B → Ty
               ),
             )
 
-      -- after a turn of the brother, whose inner child is red
+      -- after a rotation of the brother, whose inner child is red
       module _ (mi : ℕ) (md : Data X S B) (a c : Tree (Data X S B)) (is : mid ≡ forked s true mi md a c) (black : b ≡ false) where
         inward : (t : Tree (Data X S B)) → t ≡ forked s true mi md a c → (b2 : Bool) → b2 ≡ false → forked (other s) b2 q g.brother out t ≡ forked s false q g.brother (forked s true mi md a c) out
         inward t e b2 f = (λ i. forked (other s) (f i) q g.brother out (e i)) ∙ forked-other s false q g.brother out (forked s true mi md a c)
@@ -211,7 +211,7 @@ module _ {X S B : Type 0} {w : Weaving X S B} {L : Lawful w} {is_near : B → Ty
         pub can_turn_brother : Valued w is_item is_value es → CanTurnAt w is_near is_item is_value m root q s
         can_turn_brother v = can_turn_at w L is_near is_item is_value beside m root es Around_it false true q mi g.brother md a c out s made_inward lists_inward v
 
-    -- a red brother: its inner child becomes the brother, and the node is red
+    -- a red brother: its inner child becomes the brother, and the node becomes red
     pub nearer : {out mid : Tree (Data X S B)} → Gap w L is_near is_item is_value beside m root es p s q n true out mid → {m2 : map.FinMap nat_cmp (Slot (Data X S B))} {root2 : Option ℕ}
         → AtSpot m root p (λ sp. TurnedAt w is_near m2 root2 p (other s) sp) → Short w is_near beside m2 root2 es (Some (p, s)) (n - 1)
     nearer {out = out} {mid = mid} g {m2} {root2} done =
@@ -233,7 +233,7 @@ module _ {X S B : Type 0} {w : Weaving X S B} {L : Lawful w} {is_near : B → Ty
 
     module _ {oi : ℕ} {od : Data X S B} {ox oy mid : Tree (Data X S B)} (g : Gap w L is_near is_item is_value beside m root es p s q n false (fork true oi od ox oy) mid)
         {m2 : map.FinMap nat_cmp (Slot (Data X S B))} {root2 : Option ℕ} (done : AtSpot m root p (λ sp. TurnedAt w is_near m2 root2 p (other s) sp)) where
-      -- a red outer child comes to stand above the gap, and turns black
+      -- a red outer child comes above the gap and becomes black
       pub stands_outer : Stands m2 root2 oi
       stands_outer =
           let (low, (high, made2, lists2)) = turned_parent g done in
@@ -276,7 +276,7 @@ module _ {X S B : Type 0} {w : Weaving X S B} {L : Lawful w} {is_near : B → Ty
           few = subst (λ l. l ≤ n) (same_steps s g.red p g.datum (forked (other s) false q g.brother out mid) (forked (other s) false mi high new a) g.hole) g.few;
         } in (low, (x, y, subst (λ t. Gap w L is_near is_item is_value beside m2 root2 es p s mi n false t a) plain found))
 
-    -- no red child: the brother turns red
+    -- no red child: the brother becomes red
     module _ {out mid : Tree (Data X S B)} (g : Gap w L is_near is_item is_value beside m root es p s q n false out mid) {m2 : map.FinMap nat_cmp (Slot (Data X S B))} {root2 : Option ℕ} (paint : Painted m root m2 root2 q true) where
       abbrev Redder : Tree (Data X S B)
       Redder = forked (other s) true q g.brother out mid
@@ -303,7 +303,7 @@ module _ {X S B : Type 0} {w : Weaving X S B} {L : Lawful w} {is_near : B → Ty
       place_above at here =
           here (spot_of beside s g.red g.datum g.under Redder g.hole) (stands_above m2 root2 s g.red p g.datum Redder g.hole g.under reddened) ∙ ap place_of (spot_hole beside s g.red g.datum g.under Redder g.hole)
 
-      -- the node was red, and turns black
+      -- the node was red and becomes black
       pub parent_closed : g.red ≡ true → Rb false g.black out → Rb false g.black mid → {m3 : map.FinMap nat_cmp (Slot (Data X S B))} {root3 : Option ℕ} → Painted m2 root2 m3 root3 p false → Mended w is_near beside m3 root3 es
       parent_closed red ro rm {m3} {root3} paint2 = (
         plug g.hole (forked s false p g.datum g.under Redder),
@@ -313,7 +313,7 @@ module _ {X S B : Type 0} {w : Weaving X S B} {L : Lawful w} {is_near : B → Ty
             (subst (λ c. Fits false (suc g.black) (on s c p g.datum (forked (other s) false q g.brother out mid) g.hole)) red g.fits) g.even ro rm,
       )
 
-      -- or it was black, and the gap is above it now
+      -- the node was black, and the gap moves above it
       pub higher : g.red ≡ false → Rb false g.black out → Rb false g.black mid → Short w is_near beside m2 root2 es (place_of g.hole) (n - 1)
       higher black ro rm =
           let fit = subst (λ c. Fits false (suc g.black) (on s c p g.datum (forked (other s) false q g.brother out mid) g.hole)) black g.fits in
@@ -332,7 +332,7 @@ module _ {X S B : Type 0} {w : Weaving X S B} {L : Lawful w} {is_near : B → Ty
           }
 
 module _ {X S B : Type 0} (w : Weaving X S B) (L : Lawful w) (is_near : B → Type 0) (is_item : X → Type 0) (is_value : S → Type 0) where
-  -- what the reads of a step tell: the slot of the node beside the gap, its link to the brother, and the brother's slot
+  -- the values read in a step: the slot of the node beside the gap, its link to the brother, and the brother's slot
   pub record Seen (beside : Tree (Data X S B)) (m : map.FinMap nat_cmp (Slot (Data X S B))) (root : Option ℕ) (es : List (ℕ × X)) (s away : Side) (p q n : ℕ) (brother : Slot (Data X S B)) : Type 0 where
     pub is_away : away ≡ other s
     pub parent : Slot (Data X S B)

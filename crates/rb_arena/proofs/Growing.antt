@@ -1,4 +1,4 @@
--- The tree in a memory, its length and its height, and where its items stand.
+-- The tree in a memory: its length, its height and the positions of its items.
 use Rattle.std.proofs.Common.{◌≡◌, ℕ, zero, suc, ◌+◌, ◌*◌, ◌^◌, ◌≤◌, ◌<◌, Bool, true, false, ◌∷◌, ◌++◌, length, Option, Some, None, refl, sym, ap, ◌∙◌, arith, append_assoc, inl, inr, lit<, length-append}
 use Rattle.std.proofs.Math.Nat.{mul-le-mul, pow-le-pow_right}
 use Rattle.std.proofs.lemmas.Bool.{cases_lt, false≢true}
@@ -46,7 +46,7 @@ module _ {D : Type 0} where
   height_size tip = omega arith
   height_size (fork c i d x y) = let l = height_size x in let r = height_size y in omega (arith, l, r)
 
-  -- so many nodes make no long path
+  -- a balanced tree of fewer than 2 ^ 63 nodes has a height of at most 126
   pub not_high : (t : Tree D) → Balanced t → size t < 2 ^ 63 → height t ≤ 126
   not_high t b lt = elim (cases_lt 126 (height t)) [
     | inl high ↦
@@ -109,7 +109,7 @@ module _ {D : Type 0} where
   pub height-below : (s : Side) (sp : Spot D) (i : ℕ) → 1 + height (below s sp) ≤ height (here sp i)
   height-below s sp i = let one = height-forked s sp.red i sp.datum (below s sp) (below (other s) sp) in let same = ap height (forked_here s sp i) in omega (arith, one, same)
 
-  -- a neighbour stands above where there is no subtree on that side
+  -- the next node on a side without a subtree is an ancestor
   pub neighbour_none : (s : Side) (i : ℕ) (sp : Spot D) → root_of (below s sp) ≡ None → neighbour_of s i sp ≡ up_on (other s) sp.hole
   neighbour_none s i sp none = ap (nearest (up_on (other s) sp.hole) (above (end_hole (other s) (on s sp.red i sp.datum (below (other s) sp) sp.hole) (below s sp)))) none
 

@@ -1,4 +1,4 @@
--- A leaf that takes the place of the node before it.
+-- Replacement of a node by the leaf that comes after it.
 use Rattle.std.proofs.Common.{◌≡◌, ℕ, suc, ◌+◌, ◌≤◌, Bool, true, false, cond, eqb, List, [], ◌∷◌, ◌++◌, length, Option, Some, None, refl, sym, ap, ◌∙◌, subst, arith, append_assoc, append-nil, length-append, inl, inr}
 use Rattle.std.proofs.lemmas.Bool.Decides.{eqb_tells}
 use Rattle.std.proofs.lemmas.Option.{none-some}
@@ -40,7 +40,7 @@ use Rattle.rb_arena.proofs.Locating.{cut, after_list, lying}
 use Rattle.rb_arena.proofs.Paths.{above-place}
 
 module _ {D : Type 0} where
-  -- the tree with another in its first place
+  -- the tree with its first node replaced
   abbrev pub first_put : Tree D → Tree D → Tree D
   first_put tip u = u
   first_put (fork c i d x y) u = fork c i d (first_put x u) y
@@ -54,7 +54,7 @@ module _ {D : Type 0} where
   grows (on Left c i d x k) a b le = grows k (fork c i d a x) (fork c i d b x) (omega (arith, le))
   grows (on Right c i d x k) a b le = grows k (fork c i d x a) (fork c i d x b) (omega (arith, le))
 
-  -- what fits a first place does not know the name of a node above it
+  -- the condition for the first place does not depend on the name of a node above it
   fits_on : (s : Side) (c : Bool) (i j : ℕ) (d e : D) (x : Tree D) (k : Hole D) (b : Bool) (n : ℕ) → Fits b n (on s c i d x k) → Fits b n (on s c j e x k)
   fits_on s true i j d e x k b n h = h
   fits_on s false i j d e x k b n h = h
@@ -68,7 +68,7 @@ module _ {D : Type 0} where
   as_deep k l tip e = e
   as_deep k l (fork c i d x y) e = as_deep (on Left c i d y k) (on Left c i d y l) x (ap (λ n. 1 + n) e)
 
-  -- a name whose node gives way to another is not in the tree
+  -- the name of a replaced node does not occur in the new tree
   left_out : (m : map.FinMap nat_cmp (Slot D)) (root : Option ℕ) (k : Hole D) (c : Bool) (i j : ℕ) (d e : D) (x y : Tree D) → {beside : Tree D} → Made beside m root (plug k (fork c i d x y))
       → count j (plug k (fork c i d x y)) + count j beside ≡ 0 → count i (plug k (fork c j e x y)) + count i beside ≡ 0
   left_out m root k c i j d e x y {beside} h fresh =
@@ -104,7 +104,7 @@ module _ {X S B : Type 0} (w : Weaving X S B) where
   slack_first is_near k l (fork c i d x y) e f h =
       slack_first is_near (on Left c i d y k) (on Left c i d y l) x e (λ (a, b). (subst (λ z. Woven w is_near (w.plus z d.delta) y) e a, f b)) h
 
-  -- a hole right after a node is the first place right below it
+  -- the hole right after a node is the first place of its right subtree
   abbrev Under : Hole (Data X S B) → List (ℕ × X) → ℕ → X → Type 0
   Under h us id x =
       (c : Bool) × ((d : Data X S B) × ((l : Tree (Data X S B)) × ((k : Hole (Data X S B)) × ((r : Tree (Data X S B)) × (h ≡ first_hole (on Right c id d l k) r)
@@ -122,7 +122,7 @@ module _ {X S B : Type 0} (w : Weaving X S B) (L : Lawful w) (is_near : B → Ty
     (sums : Sums w is_item is_sum) (parts : (a b : S) → is_value (w.join a b) → is_value a × is_value b)
     (thins : (a b c : S) → is_value (w.join a (w.join b c)) → is_value (w.join a c))
     (beside : Tree (Data X S B)) (m : map.FinMap nat_cmp (Slot (Data X S B))) (root : Option ℕ) (id heir : ℕ) (us : List (ℕ × X)) (x y : X) (vs : List (ℕ × X)) where
-  -- a leaf in the first place right below a node
+  -- a leaf in the first place of a node's right subtree
   pub record Heired : Type 0 where
     pub hole : Hole (Data X S B)
     pub red : Bool
@@ -267,7 +267,7 @@ module _ {X S B : Type 0} (w : Weaving X S B) (L : Lawful w) (is_near : B → Ty
     (sums : Sums w is_item is_sum) (parts : (a b : S) → is_value (w.join a b) → is_value a × is_value b)
     (thins : (a b c : S) → is_value (w.join a (w.join b c)) → is_value (w.join a c))
     (beside : Tree (Data X S B)) (m : map.FinMap nat_cmp (Slot (Data X S B))) (root : Option ℕ) (id : ℕ) (us : List (ℕ × X)) (x : X) (vs : List (ℕ × X)) where
-  -- the node of that name is the next, and has one child at most
+  -- the node with that name is the next one and has at most one child
   abbrev pub IsNext : ℕ → Type 0
   IsNext heir = (y : X) × ((ws : List (ℕ × X)) × (vs ≡ (heir, y) ∷ ws) × OneChild m heir)
 
@@ -283,7 +283,7 @@ module _ {X S B : Type 0} (w : Weaving X S B) (L : Lawful w) (is_near : B → Ty
 
 module _ {W X S B K : Type 0} (w : Ghosts W X S B K) (old mid : Links (Data X S B)) where
   module _ (id : ℕ) where
-    -- a node that has become a leaf
+    -- a node that was made a leaf
     pub still_stored : StoresItem w old id → StillLists w old mid id → StoresItem w mid id
     unfolding StoresItem StillLists
     still_stored (l, (reach, (beside, (us, (x, (vs, st)))))) still = (l, (reach, (beside, (us, (x, (vs, (still reach beside us x vs st, st.1, st.2)))))))
@@ -311,7 +311,7 @@ module _ {W X S B K : Type 0} (w : Ghosts W X S B K) (old : Links (Data X S B)) 
     abbrev on_right : Hole (Data X S B)
     on_right = on Right at_node.red id at_node.datum at_node.left at_node.hole
 
-    -- the subtree on its right, by what is read of it
+    -- its right subtree, as it is read
     right_is : slot.right ≡ root_of at_node.right
     right_is = ap (λ n. n.right) (upper_is old.nodes.live old.root at_node id found.made Left slot read)
 
@@ -337,11 +337,11 @@ module _ {W X S B K : Type 0} (w : Ghosts W X S B K) (old : Links (Data X S B)) 
       joined : (us ++ (id, x) ∷ []) ++ (heir, next.0) ∷ next.1.0 ≡ us ++ (id, x) ∷ (heir, next.0) ∷ next.1.0
       joined = append_assoc us ((id, x) ∷ []) ((heir, next.0) ∷ next.1.0)
 
-      -- the tree stores the heir right after the node
+      -- the tree stores the heir's item right after that of the node
       both : StoresBeside w old reach beside ((us ++ (id, x) ∷ []) ++ (heir, next.0) ∷ next.1.0)
       both = subst (StoresBeside w old reach beside) (sym joined) (subst (λ vs2. StoresBeside w old reach beside (us ++ (id, x) ∷ vs2)) next.1.1 st)
 
-      -- as does another tree that lists the same
+      -- so does any other tree that lists the same items
       both_still : (mid : Links (Data X S B)) → StillLists w old mid heir → StoresBeside w mid reach beside (us ++ (id, x) ∷ (heir, next.0) ∷ next.1.0)
       unfolding StillLists
       both_still mid still = subst (StoresBeside w mid reach beside) joined (still reach beside (us ++ (id, x) ∷ []) next.0 next.1.0 both, both.1, both.2)
@@ -369,7 +369,7 @@ module _ {W X S B K : Type 0} (w : Ghosts W X S B K) (old : Links (Data X S B)) 
 
 pub ruleset unlinking = (still_stored, still_there, still_unlinks, hangs_right, heir_child, heir_stored, both_stored, heir_unlinks)
 
--- a leaf takes the place of the node before it
+-- replacement of a node by a leaf
 module _ {W X S B K : Type 0} (w : Ghosts W X S B K) (old : Links (Data X S B)) (id heir : ℕ) where
   pub heir_place : (at : Option (ℕ × Side)) → StoresBoth w old id heir → AtSpot old.nodes.live old.root heir (λ s. at ≡ place_of s.hole) → LivesAt old.nodes at
   unfolding StoresBoth LivesAt
@@ -377,7 +377,7 @@ module _ {W X S B K : Type 0} (w : Ghosts W X S B K) (old : Links (Data X S B)) 
 
   module _ (leaf : NoChild old.nodes.live heir) where
     module _ (l : LawsOf w) (reach : B) (beside : Tree (Data X S B)) (us : List (ℕ × X)) (x y : X) (vs : List (ℕ × X)) (st : StoresBeside w old reach beside (us ++ (id, x) ∷ (heir, y) ∷ vs)) where
-      -- the leaf, in the first place right below the node
+      -- the leaf, in the first place of the node's right subtree
       low : Heired w.weaving l.laws (w.within reach) w.is_item w.is_sum w.is_value l.sums l.parts l.thins beside old.nodes.live old.root id heir us x y vs
       low = heired w.weaving l.laws (w.within reach) w.is_item w.is_sum w.is_value l.sums l.parts l.thins beside old.nodes.live old.root id heir us x y vs leaf st
 
@@ -413,7 +413,7 @@ module _ {W X S B K : Type 0} (w : Ghosts W X S B K) (old : Links (Data X S B)) 
           let h = low l reach beside us x y vs st in
           subst w.is_item (sym (is (heir_spot h) (heir_woven l reach beside us x y vs st) ∙ sym h.value)) (value_there l reach beside us x y vs st)
 
-      -- it leaves its place, and stands in that of the node
+      -- the leaf is detached and put in the place of the node
       module _ (own : X) (kept : IsKept w old id item own) (mid new : Links (Data X S B)) (at : Option (ℕ × Side)) (placed : AtSpot old.nodes.live old.root heir (λ s. at ≡ place_of s.hole))
           (e1 : mid.nodes.live ≡ hung old.nodes.live at None) (er : mid.root ≡ root_hung old.root at None) (upper : Slot (Data X S B)) (found : map.get mid.nodes.live id ≡ Some upper) (datum : Data X S B)
           (d1 : datum.item ≡ own) (d2 : datum.delta ≡ upper.«data».delta) (d3 : datum.before ≡ upper.«data».before) (d4 : datum.whole ≡ upper.«data».whole) (inherits : Inherits mid new id heir datum) where
@@ -450,7 +450,7 @@ module _ {W X S B K : Type 0} (w : Ghosts W X S B K) (old : Links (Data X S B)) 
         heir_lives (l, stands, (reach, (beside, (us, (x, (y, (vs, st))))))) =
             (_, slot_here new.nodes.live new.root (spot_new l reach beside us x y vs st) heir (made_new l reach beside us x y vs st))
 
-        -- the same tree, by its nodes and its topmost one
+        -- the same tree, by its nodes and its root
         module _ (slot : Slot (Data X S B)) (read : map.get new.nodes.live heir ≡ Some slot) (again : Links (Data X S B)) (m_same : again.nodes.live ≡ new.nodes.live) (root_same : again.root ≡ new.root) where
           pub heir_hangs : StoresBoth w old id heir → HangsAt again (Some (heir, Right)) slot.right
           unfolding StoresBoth HangsAt

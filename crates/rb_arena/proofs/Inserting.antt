@@ -1,4 +1,4 @@
--- An item that comes to a hole of a tree.
+-- Insertion of an item into a hole of a tree.
 use Rattle.std.proofs.Common.{◌≡◌, ℕ, ◌+◌, true, false, List, [], ◌∷◌, ◌++◌, Option, Some, None, refl, sym, ap, ◌∙◌, subst, arith}
 use Rattle.std.specs.Ordering.{nat_cmp}
 use Rattle.std.proofs.lemmas.Cmp.{nat_cmp_total}
@@ -39,7 +39,7 @@ empty_fits k bal = let (n, (c, (e, z), f)) = C.unplugged k tip bal in subst (λ 
 
 module _ {X S B : Type 0} (w : Weaving X S B) (L : Lawful w) (is_near : B → Type 0) (is_item : X → Type 0) (is_sum is_value : S → Type 0)
     (sums : Sums w is_item is_sum) (parts : (a b : S) → is_value (w.join a b) → is_value a × is_value b) where
-  -- names do not matter to values
+  -- the property of being values does not depend on names
   items_renamed : (xs ys : List (ℕ × X)) (i j : ℕ) (x : X) → AllItems w is_item (xs ++ (i, x) ∷ ys) → AllItems w is_item (xs ++ (j, x) ∷ ys)
   items_renamed [] ys i j x h = h
   items_renamed (e ∷ xs) ys i j x (h, hs) = (h, items_renamed xs ys i j x hs)
@@ -57,7 +57,7 @@ module _ {X S B : Type 0} (w : Weaving X S B) (L : Lawful w) (is_near : B → Ty
   still_near : (by : B) → is_near by → is_near (w.plus by w.still)
   still_near by near = subst is_near (sym (L.plus_still by)) near
 
-  -- an item that may come to a hole is a value where it is the only one
+  -- an item that may be put into a hole is a value alone
   pub valued_alone : (k : Hole (Data X S B)) (x : X) → Valued w is_item is_value (lefts w k ++ (0, x) ∷ rights w k) → Valued w is_item is_value ((0, x) ∷ [])
   valued_alone k x v =
       valued_left w L is_near is_item is_sum is_value sums parts ((0, x) ∷ []) (rights w k)
@@ -71,17 +71,17 @@ module _ {X S B : Type 0} (w : Weaving X S B) (L : Lawful w) (is_near : B → Ty
     held_minus : HeldBy w is_near (w.minus w.still (shift_at w k))
     held_minus = (shift_at w k, near, subst is_near (sym (L.plus_minus w.still (shift_at w k))) (near_of w L is_near w.still (plug k t) wv))
 
-    -- what a node there keeps of a value
+    -- the form in which a node there keeps a value
     pub can_keep_at : is_item x → HeldBy w is_near (w.minus w.still (shift_at w k)) × HeldItem w is_near is_item (kept_below w (shift_at w k) x)
     can_keep_at h = (held_minus, (shift_at w k, near, subst is_item (sym (back (shift_at w k) x)) h))
 
-    -- and a leaf
+    -- the data of a leaf there
     pub can_keep_leaf : Valued w is_item is_value ((0, x) ∷ []) → CanSumUp w is_near is_item is_sum is_value (kept_below w (shift_at w k) x) w.still w.none w.none
     can_keep_leaf v =
         can_sum_up w L is_near is_item is_sum is_value sums parts (shift_at w k) 0 (kept_below w (shift_at w k) x) w.still tip tip near (still_near (shift_at w k) near)
         (subst (λ z. Valued w is_item is_value ((0, z) ∷ [])) (sym (back (shift_at w k) x)) v)
 
-  -- the leaf hangs in a hole, and the sums above it are not renewed yet
+  -- the leaf is in a hole, and the sums above it are not recomputed yet
   module _ {beside : Tree (Data X S B)} {m : map.FinMap nat_cmp (Slot (Data X S B))} {root : Option ℕ} {place : Option (ℕ × Side)} (x : X) (k : Hole (Data X S B))
       (h : CanTake w is_near beside m root place is_item is_value x k) (id : ℕ) where
     abbrev leaf : Tree (Data X S B)
@@ -127,7 +127,7 @@ module _ {X S B : Type 0} (w : Weaving X S B) (L : Lawful w) (is_near : B → Ty
             few = omega (arith, deep, few);
           }
 
--- what is read of a place, by the path to it
+-- the values read at a place, by the path to it
 module _ {W X S B K : Type 0} (w : Ghosts W X S B K) (tree : Links (Data X S B)) (at copy : Option (ℕ × Side)) (by : B) (item : X) where
   pub can_keep_alone : IsWovenPlace w tree at → IsValueAlone w item → IsShiftTo w tree copy by → copy ≡ at → CanKeepAlone w by item
   unfolding IsWovenPlace IsValueAlone CanKeepAlone CanKeep CanSumOver IsShiftTo
@@ -147,7 +147,7 @@ module _ {W X S B K : Type 0} (w : Ghosts W X S B K) (tree : Links (Data X S B))
 
 pub ruleset making_leaf = (can_keep_alone, leaf_made)
 
--- an item that may come to a place
+-- an item that may be put at a place
 module _ {W X S B K : Type 0} (w : Ghosts W X S B K) (l : LawsOf w) (old : Links (Data X S B)) (at : Option (ℕ × Side)) (item : X) (reach : B) (beside : Tree (Data X S B)) (k : Hole (Data X S B)) (can : TakesIn w old at reach beside item k) where
   woven_in : WovenIn w old at beside tip k
   woven_in = let ((here, wv, le), bal, v) = can in (here, woven_wider w.weaving (w.within reach) w.is_near (l.within_near reach) w.weaving.still (plug k tip) wv, le)
@@ -160,7 +160,7 @@ module _ {W X S B K : Type 0} (w : Ghosts W X S B K) (l : LawsOf w) (old : Links
   unfolding IsValueAlone
   alone_there = valued_alone w.weaving l.laws (w.within reach) w.is_item w.is_sum w.is_value l.sums l.parts k item can.2
 
-  -- the leaf that is made for it is written under a name that stands in neither tree
+  -- the leaf made for the item is written under a name that is in neither tree
   leaf_written : (id : ℕ) → count id (plug k tip) + count id beside ≡ 0 → (slot : Slot (Data X S B)) → IsLeafFor w old at item slot → (mid : Links (Data X S B)) → mid.nodes.live ≡ map.insert old.nodes.live id slot → mid.root ≡ old.root
       → TakesIn w mid at reach beside item k × IsLeaf w.weaving beside mid.nodes.live id item k
   unfolding IsLeafFor
@@ -203,7 +203,7 @@ module _ {W X S B K : Type 0} (w : Ghosts W X S B K) (old : Links (Data X S B)) 
           let (takes, leaf) = leaf_written w l old at item reach beside k can id (absent_both old.nodes.live id fresh old.root (plug k tip) can.0.0.1) slot leaf_is mid written top_ in
           lists reach beside k item takes leaf
 
-      -- one that stood in no tree
+      -- a node that was in no tree
       pub lands_leaf : TakesNode w old at id item → TakesLeaf w mid at id
       unfolding TakesNode TakesLeaf
       lands_leaf (l, (reach, (beside, (k, can, apart)))) =
@@ -214,7 +214,7 @@ module _ {W X S B K : Type 0} (w : Ghosts W X S B K) (old : Links (Data X S B)) 
       lists_node new (l, some) lists = λ reach beside k can apart.
           let (takes, leaf) = leaf_written w l old at item reach beside k can id apart slot leaf_is mid written top_ in lists reach beside k item takes leaf
 
--- a leaf for a place hangs there
+-- a leaf for a place is attached there
 module _ {W X S B K : Type 0} (w : Ghosts W X S B K) (old : Links (Data X S B)) (at : Option (ℕ × Side)) (id : ℕ) where
   pub lives_over : TakesLeaf w old at id → LivesAt old.nodes at
   unfolding TakesLeaf LivesAt
@@ -223,7 +223,7 @@ module _ {W X S B K : Type 0} (w : Ghosts W X S B K) (old : Links (Data X S B)) 
 
   module _ (mid : Links (Data X S B)) (parent : Option ℕ) (live_ : mid.nodes.live ≡ hung old.nodes.live at (Some id)) (top_ : mid.root ≡ root_hung old.root at (Some id)) (up : parent ≡ above_place at) where
     module _ (l : LawsOf w) (reach : B) (beside : Tree (Data X S B)) (k : Hole (Data X S B)) (x : X) (can : TakesIn w old at reach beside x k) (leaf : IsLeaf w.weaving beside old.nodes.live id x k) where
-      -- the tree with the leaf, whose sums above it are not right yet
+      -- the tree with the leaf, with sums above it that may be wrong
       abbrev with_leaf : Tree (Data X S B)
       with_leaf = plug k (fork true id (leaf_of w.weaving k x) tip tip)
 
@@ -232,7 +232,7 @@ module _ {W X S B K : Type 0} (w : Ghosts W X S B K) (old : Links (Data X S B)) 
           let made : Made beside mid.nodes.live mid.root with_leaf = rw (live_, top_, can.0.0.0) (planted old.nodes.live old.root k id (leaf_of w.weaving k x) leaf.0 leaf.1 can.0.0.1) in
           slack_leaf w.weaving l.laws (w.within reach) w.is_item w.is_sum w.is_value l.sums l.parts x k can id mid.nodes.live mid.root parent (up ∙ ap above_place can.0.0.0 ∙ above-place k) made
 
-      -- where those are renewed, the leaf rises
+      -- after the sums are recomputed, the leaf is a red node that may have a red parent
       rises : (new : Links (Data X S B)) → RenewsFrom w mid new parent 128
           → Rising w.weaving (w.within reach) beside new.nodes.live new.root (lefts w.weaving k ++ (id, x) ∷ rights w.weaving k) id 128
           × Valued w.weaving w.is_item w.is_value (lefts w.weaving k ++ (id, x) ∷ rights w.weaving k)
@@ -257,7 +257,7 @@ module _ {W X S B K : Type 0} (w : Ghosts W X S B K) (old : Links (Data X S B)) 
 
 pub ruleset hung_leaf = (lives_over, slack_over, leaf_rises, leaf_listed)
 
--- a new node makes one more
+-- a new node increases the number of live nodes by one
 pub len_put : {V : Type 0} (m m2 : map.FinMap nat_cmp V) (id : ℕ) (x : V) → m2 ≡ map.insert m id x → map.get m id ≡ None → map.len m2 ≡ map.len m + 1
 len_put m m2 id x new none = ap map.len new ∙ map.len-insert nat_cmp_total m id x ∙ rw none refl
 
@@ -275,7 +275,7 @@ module _ {W X S B K : Type 0} (w : Ghosts W X S B K) (tree : Links (Data X S B))
   unfolding StandsValued IsWovenPlace
   valued_place (l, (s, (made, wv, le), value)) = (l, (s.beside, (here s id, (s.hole, ((placed s made, made), wv, le)))))
 
-  -- what it keeps of an item
+  -- the form in which it keeps an item
   module _ (by : B) (is : IsShiftTo w tree at by) (item : X) where
     pub can_keep_there : StandsWoven w tree id → w.is_item item → CanKeep w by item
     unfolding StandsWoven CanKeep IsShiftTo

@@ -1,4 +1,4 @@
--- The node of an item of a tree that is kept.
+-- The node of an item in a kept tree.
 use Rattle.std.proofs.Common.{◌≡◌, ℕ, ◌+◌, ◌≤◌, List, ◌∷◌, ◌++◌, length, length-append, Option, None, refl, sym, ap, ◌∙◌, subst, arith}
 use Rattle.std.specs.FinMap as map
 use Rattle.rb_rules.specs.declared.slot.Data.{Data}
@@ -21,7 +21,7 @@ use Rattle.rb_arena.proofs.Leaving.{valued_without}
 use Rattle.rb_arena.proofs.Listing.{low, items_are, loose_are, keeps_mended}
 use Rattle.rb_arena.proofs.Locating.{lying, locate_in, next_is, prev_is}
 
--- the tree is kept, and shows those items and those loose ones
+-- the tree is kept and shows those items and those loose items
 abbrev pub Shows : {W X S B K : Type 0} → Ghosts W X S B K → B → Links (Data X S B) → Option ℕ → List (ℕ × X) → List (ℕ × X) → Type 0
 Shows w reach links front items loose = KeepsWithin w reach links front × (items_in w.weaving links.nodes.live links.root ≡ items) × (loose_in w.weaving links.nodes.live front ≡ loose)
 
@@ -92,7 +92,7 @@ module _ {W X S B K : Type 0} {w : Ghosts W X S B K} {reach : B} {links : Links 
   pub stored_there : StoresBeside w links reach kept.beside (us ++ (id, x) ∷ vs)
   stored_there = subst (StoresBeside w links reach kept.beside) n.listed (all_stored w reach links front kept)
 
-  -- the list without the item, in another tree and beside another chain; lists and memories have as many
+  -- the list without the item, in another tree and beside another chain; the lengths of lists and memories agree
   pub without_item : (L : Lawful w.weaving) (sums : Sums w.weaving w.is_item w.is_sum) (parts : (a b : S) → w.is_value (w.weaving.join a b) → w.is_value a × w.is_value b)
       (thins : (a b c : S) → w.is_value (w.weaving.join a (w.weaving.join b c)) → w.is_value (w.weaving.join a c))
       (last : Links (Data X S B)) (front2 : Option ℕ) (chain : Tree (Data X S B)) → MendedBeside w reach chain last (us ++ vs) → front2 ≡ root_of chain → Chain w.weaving chain
@@ -103,7 +103,7 @@ module _ {W X S B K : Type 0} {w : Ghosts W X S B K} {reach : B} {links : Links 
       keeps_mended w.weaving (w.within reach) w.is_item w.is_value last.nodes.live last.root front2 (us ++ vs) chain mended first strung
       (valued_without w.weaving L (w.within reach) w.is_item w.is_sum w.is_value sums parts thins us (id, x) vs stored_there.1) (omega (arith, all, long, old, new, many)) (omega (arith, few, less))
 
-  -- what is right beside the node is what is right beside its item
+  -- the next node belongs to the next item
   pub beside_there : (side : Side) (o : Option ℕ) → IsBeside links id side o → o ≡ name_beside side us vs
   unfolding IsBeside
   beside_there Right o is =
@@ -111,7 +111,7 @@ module _ {W X S B K : Type 0} {w : Ghosts W X S B K} {reach : B} {links : Links 
   beside_there Left o is =
       let s = n.spot in is own_spot (made_there, low_there) ∙ prev_is w.weaving kept.beside s.hole s.red id s.datum s.left s.right ∙ ap (last_or None) (sym n.before)
 
--- the node of any item stands in the tree
+-- the node of each item is in the tree
 pub stands_item : {W X S B K : Type 0} (w : Ghosts W X S B K) (reach : B) (links : Links (Data X S B)) (front : Option ℕ) (kept : KeepsWithin w reach links front)
     (id : ℕ) {items : List (ℕ × X)} → items_in w.weaving links.nodes.live links.root ≡ items → IsItem items id → StandsLow links id
 stands_item w reach links front kept id is (us, (x, (vs, e))) = stands_there (node_of w reach links front kept us id x vs is e)

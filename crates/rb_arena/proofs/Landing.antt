@@ -1,4 +1,4 @@
--- One more item in a tree, and the loose nodes: one comes before them, or the front one lands.
+-- Addition of an item to a tree and its loose nodes: a node is put in front of them, or the front one is put into the tree.
 use Rattle.std.proofs.Common.{◌≡◌, ℕ, suc, ◌+◌, ◌^◌, ◌<◌, Bool, List, [], ◌∷◌, ◌++◌, length, Option, Some, None, refl, sym, ap, ◌∙◌, subst, arith, append_assoc, length-append}
 use Rattle.std.specs.Prelude.{IfSome}
 use Rattle.std.specs.Option.{unwrap_or}
@@ -30,12 +30,12 @@ others [] = []
 others (x ∷ xs) = xs
 
 module _ {X : Type 0} where
-  -- the items with one more at that place
+  -- the items with one added at that place
   abbrev pub put_at : (items : List (ℕ × X)) (id : Option ℕ) → PlaceAfter items id → ℕ × X → List (ℕ × X)
   put_at items None at e = e ∷ items
   put_at items (Some id) (us, (x, (vs, is))) e = us ++ (id, x) ∷ e ∷ vs
 
-  -- it comes between the items up to the place and those after it
+  -- the added item is between the items up to the place and those after it
   put_between : (items : List (ℕ × X)) (id : Option ℕ) (at : PlaceAfter items id) (e : ℕ × X) → (split_after items id at).0 ++ e ∷ (split_after items id at).1.0 ≡ put_at items id at e
   unfolding split_after
   put_between items None at e = refl
@@ -55,7 +55,7 @@ module _ {X : Type 0} where
   put_from items None us vs (is, none) e = ap (λ l. e ∷ l) (is ∙ ap (λ l. l ++ vs) none) ∙ sym (ap (λ l. l ++ e ∷ vs) none)
   put_from items (Some id) us vs (is, (ws, (x, ends))) e = sym (ap (λ l. l ++ e ∷ vs) ends ∙ append_assoc ws ((id, x) ∷ []) (e ∷ vs))
 
-  -- the new list by the place of the entry
+  -- the new list, by the place of the added entry
   pub has_put_at : (items new : List (ℕ × X)) (id : Option ℕ) (e : ℕ × X) → ((at : PlaceAfter items id) → new ≡ put_at items id at e) → HasPut items new id e
   has_put_at items new None e is = is tt
   has_put_at items new (Some id) e is = λ us x vs split. is (us, (x, (vs, split)))
@@ -89,7 +89,7 @@ module _ {X S B : Type 0} (w : Weaving X S B) (L : Lawful w) where
         ),
       )
 
-  -- of a list that starts so
+  -- a list with such a first item
   pub front_is : (a b : ℕ × X) (as_ bs : List (ℕ × X)) → a ∷ as_ ≡ b ∷ bs → a.0 ≡ b.0
   front_is a b as_ bs e = ap (λ l. (unwrap_or (front_of l) a).0) e
 
@@ -106,7 +106,7 @@ module _ {X S B : Type 0} (w : Weaving X S B) (L : Lawful w) where
   put_length items (Some id) (us, (x, (vs, is))) e =
       let old = length-append us ((id, x) ∷ vs) in let new = length-append us ((id, x) ∷ e ∷ vs) in let same = ap length is in omega (arith, old, new, same)
 
--- the tree that hangs at a place, and the list with one more there
+-- the tree that hangs at a place, and the list with one item added there
 module _ {X S B : Type 0} {w : Weaving X S B} {is_near : B → Type 0} {is_item : X → Type 0} {is_value : S → Type 0} {m : map.FinMap nat_cmp (Slot (Data X S B))} {root front : Option ℕ}
     (K : Keeps w is_near is_item is_value m root front) {items : List (ℕ × X)} (same : items ≡ entries w w.still K.tree) where
   abbrev pub Hanging : (id : Option ℕ) → PlaceAfter items id → Type 0
@@ -120,13 +120,13 @@ module _ {X S B : Type 0} {w : Weaving X S B} {is_near : B → Type 0} {is_item 
       let (t, (k, hangs, whole, l, r)) = placed w K.beside m root K.tree K.made (low K) id us vs (sym same ∙ split.0, split.1) in
       (k, (t, hangs, whole, λ e. (λ i. l i ++ e ∷ r i) ∙ put_between items id at e))
 
--- the sum of the items with one more at a place
+-- the sum of the items with one added at a place
 pub sums_put : {X S B : Type 0} (w : Weaving X S B) (is_value : S → Type 0) (items : List (ℕ × X)) (id : Option ℕ) (item : X) → SumsPut w is_value items id item → (at : PlaceAfter items id)
     → is_value (sum_of w (put_at items id at (0, item)))
 sums_put w is_value items None item h at = h
 sums_put w is_value items (Some id) item h (us, (x, (vs, is))) = h us x vs is
 
--- one more item at a place
+-- one item added at a place
 module _ {X S B : Type 0} {w : Weaving X S B} {is_near : B → Type 0} {is_item : X → Type 0} {is_value : S → Type 0} {m : map.FinMap nat_cmp (Slot (Data X S B))} {root front : Option ℕ}
     (K : Keeps w is_near is_item is_value m root front) {items : List (ℕ × X)} (same : items ≡ entries w w.still K.tree) (to : Option ℕ) (place : PlaceAfter items to) where
   abbrev hung_at : Hanging K same to place
@@ -160,7 +160,7 @@ module _ {X S B : Type 0} {w : Weaving X S B} {is_near : B → Type 0} {is_item 
         keeps_mended w is_near is_item is_value m2 root2 front2 (put_at items to place (i, item)) beside (subst (Mended w is_near beside m2 root2) (list_is i) mended) first chain
         (subst (Valued w is_item is_value) (list_is i) renamed) (omega (arith, one, many)) few
 
--- the front loose node lands at a place
+-- the front loose node is put at a place
 module _ {X S B : Type 0} {w : Weaving X S B} (L : Lawful w) {is_near : B → Type 0} {is_item : X → Type 0} {is_value : S → Type 0} {m : map.FinMap nat_cmp (Slot (Data X S B))} {root front : Option ℕ}
     (K : Keeps w is_near is_item is_value m root front) {landing : ℕ} (starts : front ≡ Some landing) where
   abbrev pub Front : Type 0

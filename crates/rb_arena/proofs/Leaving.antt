@@ -1,4 +1,4 @@
--- A leaf that leaves a hole of a tree.
+-- Removal of a leaf from a hole of a tree.
 use Rattle.std.proofs.Common.{◌≡◌, ℕ, suc, ◌+◌, ◌<◌, ◌≤◌, Bool, true, false, List, [], ◌∷◌, ◌++◌, length, Option, Some, None, refl, sym, ap, ◌∙◌, subst, arith, append-nil, inl, inr}
 use Rattle.std.specs.Prelude.{is_some, IsSome}
 use Rattle.std.specs.Option.{unwrap_or}
@@ -49,7 +49,7 @@ module _ {D E : Type 0} (f : D → E) where
   tip_back tip e = refl
   tip_back (fork c i d x y) e = absurd (subst is_tip (sym e) tt)
 
-  -- a tree of the shape of one with a hole has the hole at the same place
+  -- a tree of the same shape as one with a hole has the hole at the same place
   pub emptied_back : (k : Hole D) (u : Tree D) → each f u ≡ each f (plug k tip)
       → (k2 : Hole D) × ((u ≡ plug k2 tip) × (place_of k2 ≡ place_of k) × (depth k2 ≡ depth k) × ((c : Bool) (n : ℕ) → Fits c n k → Fits c n k2))
   emptied_back top u e = (top, (tip_back u e, refl, refl, λ c n q. q))
@@ -103,7 +103,7 @@ pub none_of : (o : Option ℕ) → is_some o ≡ false → o ≡ None
 none_of None e = refl
 none_of (Some i) e = absurd (false≢true (sym e))
 
--- a node with one child at most that has a left one has no right one
+-- a node with at most one child that has a left child has no right one
 pub only_left : {D : Type 0} (m : map.FinMap nat_cmp (Slot D)) (id : ℕ) (sl : Slot D) → map.get m id ≡ Some sl → OneChild m id → is_some sl.left ≡ true → sl.right ≡ None
 unfolding OneChild
 only_left m id sl found (n, f, inl e) some = absurd (false≢true (sym (ap is_some (ap (λ o. (unwrap_or o sl).left) (sym found ∙ f) ∙ e)) ∙ some))
@@ -154,7 +154,7 @@ module _ {X S B : Type 0} (w : Weaving X S B) (L : Lawful w) (is_near : B → Ty
             few = omega (arith, le, few, deep);
           })
 
-  -- a leaf goes from a red-black tree
+  -- a leaf is removed from a red-black tree
   module _ (k : Hole (Data X S B)) (c : Bool) (id : ℕ) (d : Data X S B) (wv : Woven w is_near w.still (plug k (fork c id d tip tip))) (bal : Balanced (plug k (fork c id d tip tip)))
       (v : Valued w is_item is_value (lefts w k ++ rights w k)) (le : depth k ≤ 128) where
     leaf_fits : Fits c (leaf_height c) k
@@ -173,7 +173,7 @@ module _ {X S B : Type 0} (w : Weaving X S B) (L : Lawful w) (is_near : B → Ty
           leaf_fits,
         )
 
-  -- a node with no child, by its item's place in the list
+  -- a node without children, from the place of its item in the list
   module _ (beside : Tree (Data X S B)) (m : map.FinMap nat_cmp (Slot (Data X S B))) (root : Option ℕ) (id : ℕ) (us : List (ℕ × X)) (x : X) (vs : List (ℕ × X)) where
     pub record Spotted : Type 0 where
       pub spot : Spot (Data X S B)
@@ -227,7 +227,7 @@ module _ {X S B : Type 0} (w : Weaving X S B) (L : Lawful w) (is_near : B → Ty
         let colour : slot.red ≡ s.red = ap (λ n. n.red) (upper_is m root (lying beside s) id at_.made Left slot read) in
         (k, list, subst (λ c. Emptied w is_near is_item is_value beside m1 root1 at c k) (sym colour) empty, gone m root k Left s.red id s.datum tip old)
 
-    -- a turn towards its one child's side makes a leaf of a node
+    -- a rotation towards its only child makes a node a leaf
     module _ (at : Spotted) (side : Side) (j : ℕ) (is : root_of (below side at.spot) ≡ Some j) where
       abbrev s : Spot (Data X S B)
       s = at.spot
@@ -267,7 +267,7 @@ module _ {X S B : Type 0} (w : Weaving X S B) (L : Lawful w) (is_near : B → Ty
         pub down_mended : Mended w is_near beside m2 root2 (us ++ (id, x) ∷ vs)
         down_mended = let (low, (high, made2, list2, bal2)) = lower_leaf in (plug s.hole (forked side false j high tip (fork true id low tip tip)), made2, list2, bal2)
 
-    -- the same by what is read of the node
+    -- the same, from what is read of the node
     module _ (stores : Stores w is_near is_item is_value beside m root (us ++ (id, x) ∷ vs)) (sl : Slot (Data X S B)) (found : map.get m id ≡ Some sl) where
       abbrev node : Spot (Data X S B)
       node = (spotted stores).spot
@@ -290,7 +290,7 @@ module _ {X S B : Type 0} (w : Weaving X S B) (L : Lawful w) (is_near : B → Ty
           pub mended_there : Mended w is_near beside m2 root2 (us ++ (id, x) ∷ vs)
           mended_there = down_mended (spotted stores) side there.0 there.1 (sym (child_is (other side)) ∙ none) m2 root2 (done (lying beside node) (spotted stores).made)
 
--- a node with one child at most, by what is read of it
+-- a node with at most one child, from what is read of it
 module _ {W X S B K : Type 0} (w : Ghosts W X S B K) (old : Links (Data X S B)) (id : ℕ) (slot : Slot (Data X S B)) (read : map.get old.nodes.live id ≡ Some slot) where
   turns_down : (side : Side) → StoresItem w old id → is_some (child side slot) ≡ true → CanTurnNode w old id side
   unfolding StoresItem CanTurnNode
@@ -349,7 +349,7 @@ stored_there w tree id (l, (reach, (beside, (us, (x, (vs, st)))))) =
     let found = spotted w.weaving l.laws (w.within reach) w.is_item w.is_sum w.is_value l.sums l.parts l.thins beside m root id us x vs st in
     (lying beside found.spot, found.made)
 
--- a leaf hangs there no more
+-- the leaf is detached from its place
 module _ {D : Type 0} where
   pub place_stands : (tree : Links D) (id : ℕ) (at : Option (ℕ × Side)) → IsThere tree id → AtSpot tree.nodes.live tree.root id (λ s. at ≡ place_of s.hole) → LivesAt tree.nodes at
   unfolding IsThere LivesAt

@@ -1,4 +1,4 @@
--- A subtree in memory that is levelled from its topmost node down.
+-- Application of the shifts in a subtree in memory, from its root down.
 use Rattle.std.proofs.Common.{◌≡◌, ℕ, ◌-◌, Bool, ◌∷◌, Option, Some, refl, sym, ◌∙◌, subst, arith}
 use Rattle.std.specs.Ordering.{nat_cmp}
 use Rattle.std.specs.FinMap as map
@@ -18,7 +18,7 @@ use Rattle.rb_arena.specs.Shifting.{CanLevel}
 module _ {X S B : Type 0} (w : Weaving X S B) (L : Lawful w) (is_near : B → Type 0) (is_item : X → Type 0) (is_sum is_value : S → Type 0)
     (sums : Sums w is_item is_sum) (parts : (a b : S) → is_value (w.join a b) → is_value a × is_value b) (starts_near : is_near w.still)
     (beside : Tree (Data X S B)) (m : map.FinMap nat_cmp (Slot (Data X S B))) (root : Option ℕ) (i : ℕ) (acc : B) (n : ℕ) (k : Hole (Data X S B)) where
-  -- the topmost node of a tree that may be levelled
+  -- the root of a tree whose shifts may be applied
   pub record Topmost (t : Tree (Data X S B)) : Type 0 where
     pub red : Bool
     pub datum : Data X S B
@@ -46,7 +46,7 @@ module _ {X S B : Type 0} {w : Weaving X S B} {L : Lawful w} {is_near : B → Ty
   pub left_values : Valued w is_item is_value (entries w acc z.left)
   left_values = valued_left w L is_near is_item is_sum is_value sums parts (entries w acc z.left) ((i, w.shift acc z.datum.item) ∷ entries w (w.plus acc z.datum.delta) z.right) z.can.3
 
-  -- its numbers are those of values, relative to the path
+  -- its numbers are relative forms of values
   pub held_item : HeldItem w is_near is_item (w.shift acc z.datum.item)
   held_item = (w.still, starts_near, rw L.shift_still own.0.0)
 
@@ -69,7 +69,7 @@ module _ {X S B : Type 0} {w : Weaving X S B} {L : Lawful w} {is_near : B → Ty
   abbrev pub on_right : Hole (Data X S B)
   on_right = on Right z.red i (level_datum w acc z.datum) (levelled w acc z.left) k
 
-  -- once the node is levelled, so may be its left subtree, and then the right one
+  -- once the shifts are applied at the node, they may be applied in its left subtree and then in the right one
   module _ {m2 : map.FinMap nat_cmp (Slot (Data X S B))} {root2 : Option ℕ} where
     pub left_next : Made beside m2 root2 (plug on_left z.left) → CanLevel w is_near is_item is_value beside m2 root2 (root_of z.left) acc (n - 1) on_left z.left
     left_next made = let le = z.can.4 in (made, refl, z.can.2.2, left_values, omega (arith, le))

@@ -6,7 +6,6 @@ pub mod Growing
 pub mod Heirs
 pub mod Inserting
 pub mod Keeping
-pub mod Items
 pub mod Landing
 pub mod Leaving
 pub mod Levelling

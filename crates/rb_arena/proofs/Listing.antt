@@ -1,4 +1,4 @@
--- A tree in memory as a list of items, and the chain of the loose ones.
+-- A tree in memory as a list of items, and the chain of loose nodes.
 use Rattle.std.proofs.Common.{◌≡◌, ℕ, ◌+◌, ◌^◌, ◌≤◌, ◌<◌, false, List, [], ◌∷◌, ◌++◌, length, Option, None, refl, sym, ap, ◌∙◌, subst, arith, lit<}
 use Rattle.std.specs.Ordering.{nat_cmp}
 use Rattle.std.specs.FinMap as map
@@ -29,7 +29,7 @@ module _ {X S B : Type 0} (w : Weaving X S B) where
       let l = length-entries w w.still t in let high = height_size t in
       ap (entries w w.still) (ap (grown m (map.len m)) first ∙ grown_is m (map.len m) None t made (omega (arith, l, high, all)))
 
-  -- no item, and none loose
+  -- no items and no loose items
   pub none_in : (m : map.FinMap nat_cmp (Slot (Data X S B))) → items_in w m None ≡ []
   none_in m = ap (entries w w.still) (grown_none m 128)
 
@@ -51,7 +51,7 @@ module _ {X S B : Type 0} (w : Weaving X S B) (is_near : B → Type 0) (is_item 
     few = rw (map.len-empty nat_cmp (Slot (Data X S B))) (lit< tt);
   }
 
-  -- a mended tree with its loose nodes
+  -- a red-black tree with its loose nodes
   pub keeps_mended : (m : map.FinMap nat_cmp (Slot (Data X S B))) (root front : Option ℕ) (es : List (ℕ × X)) (beside : Tree (Data X S B)) → Mended w is_near beside m root es → front ≡ root_of beside → Chain w beside
       → Valued w is_item is_value es → length es + length (entries w w.still beside) ≡ map.len m → map.len m < 2 ^ 63
       → Keeps w is_near is_item is_value m root front × (items_in w m root ≡ es) × (loose_in w m front ≡ entries w w.still beside)
@@ -84,14 +84,14 @@ module _ {X S B : Type 0} {w : Weaving X S B} {is_near : B → Type 0} {is_item 
   pub loose_are : loose_in w m front ≡ entries w w.still K.beside
   loose_are = loose_same w m front K.beside (length (entries w w.still K.tree)) K.first K.made.aside K.all
 
-  -- the sums are right for all shifts that a path may have
+  -- the sums are right for each shift that a path may have
   pub woven_near : (near : B → Type 0) → ((by : B) → is_near by → near by) → Woven w near w.still K.tree
   woven_near near wide = woven_wider w is_near near wide w.still K.tree K.woven
 
   pub starts_top : StartsAt K.beside m root None root K.tree top
   starts_top = ((refl, K.made), K.made.from, omega (arith, low))
 
-  -- a tree's first place, by the tree that hangs at a place k
+  -- the first place of the tree that hangs at a place k
   module _ (k : Hole (Data X S B)) (t : Tree (Data X S B)) (whole : plug k t ≡ K.tree) where
     pub can_take : (at : Option (ℕ × Side)) (x : X) → at ≡ place_of (first_hole k t) → Valued w is_item is_value (lefts w k ++ (0, x) ∷ (entries w (shift_at w k) t ++ rights w k))
         → CanTake w is_near K.beside m root at is_item is_value x (first_hole k t)

@@ -1,4 +1,4 @@
--- The node of an item in the list.
+-- The node of an item of the list.
 use Rattle.std.proofs.Common.{None, ◌≡◌, ℕ, Bool, List, [], ◌∷◌, ◌++◌, length, Option, Some, refl, sym, ap, ◌∙◌, subst, arith, append_assoc, append-nil, ◌⊎◌, inl, inr, length-append}
 use Rattle.std.proofs.lemmas.Option.{none-some}
 use Rattle.rb_rules.specs.declared.slot.Data.{Data}
@@ -19,7 +19,7 @@ module _ {A : Type 0} where
   tail_of [] = []
   tail_of (x ∷ xs) = xs
 
-  -- one list cut in two ways
+  -- one list split in two ways
   abbrev Cut : List A → A → List A → List A → A → List A → Type 0
   Cut xs a ys us b vs =
       ((w : List A) × (xs ≡ us ++ b ∷ w) × (vs ≡ w ++ a ∷ ys)) ⊎ (((xs ≡ us) × (a ≡ b) × (ys ≡ vs)) ⊎ ((w : List A) × (us ≡ xs ++ a ∷ w) × (ys ≡ w ++ b ∷ vs)))
@@ -36,7 +36,7 @@ module _ {A : Type 0} where
   cut (p ∷ xs) a ys [] b vs e = inl (xs, (λ i. ap (head_or a) e i ∷ xs), sym (ap tail_of e))
   cut (p ∷ xs) a ys (u ∷ us) b vs e = longer p u xs a ys us b vs (ap (head_or a) e) (cut xs a ys us b vs (ap tail_of e))
 
--- the same node with that tree beside
+-- the same node with that tree beside it
 abbrev pub lying : {D : Type 0} → Tree D → Spot D → Spot D
 lying beside s = record { beside = beside; hole = s.hole; red = s.red; datum = s.datum; left = s.left; right = s.right }
 
@@ -45,7 +45,7 @@ below_lying beside Left s = refl
 below_lying beside Right s = refl
 
 module _ {X S B : Type 0} (w : Weaving X S B) where
-  -- a node that stands where the item does
+  -- a node at the position of the item
   abbrev pub Located : Hole (Data X S B) → Tree (Data X S B) → List (ℕ × X) → ℕ → X → List (ℕ × X) → Type 0
   Located k t us id x vs =
       (s : Spot (Data X S B)) × (plug s.hole (here s id) ≡ plug k t) × (x ≡ w.shift (shift_at w s.hole) s.datum.item)
@@ -81,7 +81,7 @@ module _ {X S B : Type 0} (w : Weaving X S B) where
   above_first k tip = refl
   above_first k (fork c i d x y) = above_first (on Left c i d y k) x ∙ first_of_left (above k) i (w.shift (shift_at w k) d.item) (entries w (shift_at w k) x) (entries w (w.plus (shift_at w k) d.delta) y)
 
-  -- the list up to a node, and what comes after it
+  -- the list up to a node, and the items after it
   pub after_list : (s : Spot (Data X S B)) (id : ℕ) (x : X) (us zs : List (ℕ × X)) → x ≡ w.shift (shift_at w s.hole) s.datum.item → us ≡ lefts w s.hole ++ entries w (shift_at w s.hole) s.left
       → lefts w (on Right s.red id s.datum s.left s.hole) ++ zs ≡ us ++ (id, x) ∷ zs
   after_list s id x us zs val l =
@@ -135,7 +135,7 @@ module _ {X S B : Type 0} (w : Weaving X S B) where
       let es = entries w (shift_at w k) x in let e : ℕ × X = (i, w.shift (shift_at w k) d.item) in
       last_of_right None i (w.shift (shift_at w k) d.item) (lefts w k ++ es) [] ∙ ap (last_or None) (append_assoc (lefts w k) es (e ∷ []))
 
-  -- the node right beside the one in a hole, by its subtrees
+  -- the next node of the one in a hole, by its subtrees
   pub next_is : (beside : Tree (Data X S B)) (k : Hole (Data X S B)) (c : Bool) (id : ℕ) (d : Data X S B) (l r : Tree (Data X S B))
       → neighbour_of Right id (record { beside = beside; hole = k; red = c; datum = d; left = l; right = r }) ≡ first_or None (entries w (w.plus (shift_at w k) d.delta) r ++ rights w k)
   next_is beside k c id d l tip = up-next k

@@ -1,4 +1,4 @@
--- What a shift of the items after a place leaves, and the reach that it wants.
+-- The result of a shift of the items after a place, and the reach that it needs.
 use Rattle.std.proofs.Common.{◌≡◌, ℕ, List, ◌++◌, length, Option, Some, None, refl, sym, ap, ◌∙◌, subst, arith}
 use Rattle.std.specs.Ordering.{nat_cmp}
 use Rattle.std.specs.FinMap as map
@@ -89,7 +89,7 @@ module _ {X S B : Type 0} (w : Weaving X S B) (L : Lawful w) (is_near : B → Ty
     levelled_within is_still still m2 root2 ((t, made, (wv, e), b), v, few) after =
         (levelled w w.still t, after, (woven-levelled w L (within reach) is_still still w.still t wv, entries-levelled w L w.still t ∙ e), balanced_alike t (levelled w w.still t) (sym (bare-levelled w w.still t)) b)
 
-    -- what is found once the tree is levelled
+    -- the result once all shifts in the tree are applied
     pub reaches_levelled : within w.still w.still → (found : Option B) → found ≡ widened w.still by → (m2 : map.FinMap nat_cmp (Slot (Data X S B))) (root2 : Option ℕ) (h : Stores w (within reach) is_item is_value beside m root es)
         → Made beside m2 root2 (levelled w w.still h.0.0) → Reaches w beside m2 root2 within widened es reach by found
     reaches_levelled starts None is m2 root2 ((t, made, (wv, e), b), v, few) after =
@@ -139,7 +139,7 @@ module _ {W X S B K : Type 0} (w : Ghosts W X S B K) (old : Links (Data X S B)) 
   unfolding CanShiftAll CanShiftUp
   can_shift_up (l, (from, (reach, (beside, (k, wide, can))))) = (l, (beside, (tip, (k, may_shift l from reach beside k wide can))))
 
-  -- the sums above the place may be renewed then
+  -- the sums above the place may be recomputed afterwards
   pub shifted_slack : (mid : Links (Data X S B)) (parent : Option ℕ) → CanShiftAll w old at by → ShiftsUp w old mid at by → parent ≡ above_place at → IsSlackFrom w mid parent 128
   unfolding CanShiftAll IsSlackFrom
   shifted_slack mid parent (l, (from, (reach, (beside, (k, wide, can))))) shifts is = (reach, (beside, (_, slack_shifted l from reach beside k wide can mid parent shifts is)))

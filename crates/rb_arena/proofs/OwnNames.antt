@@ -1,4 +1,4 @@
--- No name stands twice in a tree and the chain of the loose items beside it.
+-- No name occurs twice in a tree and the chain of loose items beside it.
 use Rattle.std.proofs.Common.{◌≡◌, ℕ, ◌==◌, cond, Option, List, ◌∷◌, refl, arith}
 use Rattle.std.specs.Ordering.{nat_cmp}
 use Rattle.std.specs.FinMap as map

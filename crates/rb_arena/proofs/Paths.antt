@@ -1,4 +1,4 @@
--- The shifts on the path to a place, summed from the place up.
+-- The sum of the shifts on the path to a place, computed from the place up.
 use Rattle.std.proofs.Common.{◌≡◌, ℕ, suc, ◌+◌, ◌-◌, ◌≤◌, Bool, Option, Some, None, refl, sym, ap, ◌∙◌, subst, arith}
 use Rattle.std.proofs.lemmas.Option.{none-some}
 use Rattle.std.specs.Option.{unwrap_or}
@@ -34,7 +34,7 @@ module _ {X S B : Type 0} (w : Weaving X S B) (L : Lawful w) where
       ∙ ap (λ z. w.plus z (w.minus a w.still)) (L.plus_still w.still) ∙ L.plus_minus a w.still
 
   module _ (is_near : B → Type 0) (beside : Tree (Data X S B)) (m : map.FinMap nat_cmp (Slot (Data X S B))) (root : Option ℕ) where
-    -- what is left of the path from at up, where by is the shift so far
+    -- the rest of the path from `at` up, where `by` is the sum so far
     abbrev pub Along : B → Option (ℕ × Side) → B → ℕ → Type 0
     Along all at by n =
         (k : Hole (Data X S B)) × ((t : Tree (Data X S B)) × (at ≡ place_of k) × Made beside m root (plug k t) × Woven w is_near w.still (plug k t) × (all ≡ w.plus (shift_at w k) by) × (depth k ≤ n))
@@ -152,7 +152,7 @@ module _ {W X S B K : Type 0} (w : Ghosts W X S B K) (tree : Links (Data X S B))
 
 pub ruleset path_shifts = (path_starts, path_ends, path_over, path_steps, can_pass, path_next)
 
--- the shift of a path is the only one there is
+-- the shift of a path is the only shift
 pub only_shift : {W X S B K : Type 0} (w : Ghosts W X S B K) (tree : Links (Data X S B)) (at : Option (ℕ × Side)) (only : B) → ((by : B) → by ≡ only) → IsShiftTo w tree at only
 unfolding IsShiftTo
 only_shift w tree at only h = λ beside t k there. sym (h (shift_at w.weaving k))

@@ -1,4 +1,4 @@
--- A node whose sums are renewed: what its data may be, and what they are.
+-- A node with recomputed sums: conditions for its data, and their values.
 use Rattle.std.proofs.Common.{◌≡◌, ℕ, Some, ap, ◌∙◌}
 use Rattle.std.specs.FinMap as map
 use Rattle.rb_rules.specs.declared.slot.Data.{Data}

@@ -1,4 +1,4 @@
--- A subtree in memory that is rewritten: its left subtree, its topmost item, and its right subtree.
+-- Rewriting of a subtree in memory: its left subtree, the item of its root, and its right subtree.
 use Rattle.std.proofs.Common.{◌≡◌, ℕ, ◌-◌, List, ◌∷◌, ◌++◌, Some, refl, sym, ap, ◌∙◌, subst, arith}
 use Rattle.rb_rules.specs.declared.slot.Data.{Data}
 use Rattle.rb_rules.specs.declared.slot.Side.TheVariants.{Left, Right}
@@ -72,7 +72,7 @@ module _ {W X S B K V : Type 0} (w : Ghosts W X S B K) (l : LawsOf w) (rewritten
   pub left_can : CanRewrite w rewritten onward beside old v (root_of z.left) acc (n - 1) on_left z.left
   left_can = let le = z.can.4 in ((z.can.0, refl, z.can.2.2, left_values z, omega (arith, le)), left_new)
 
-  -- where the list stays as it is, so does the tree
+  -- if the list is unchanged, so is the tree
   pub skipped : Leaves w.weaving w.is_item rewritten onward v (w.weaving.shift_sum acc z.datum.whole) → Rewrote w rewritten onward beside old v v acc k t z.datum.whole
   skipped leaves =
       let stays = leaves (entries w.weaving acc t) can.0.3.0 (ap (λ u. sum_of w.weaving (entries w.weaving acc u)) z.is ∙ sym z.can.2.1) in record {

@@ -1,4 +1,4 @@
--- A tree whose items are rewritten, as its users see it.
+-- Rewriting of the items of a whole tree.
 use Rattle.std.proofs.Common.{◌≡◌, ℕ, suc, List, Option, [], ◌∷◌, length, refl, sym, ap, ◌∙◌, subst, arith}
 use Rattle.std.specs.FinMap as map
 use Rattle.rb_rules.specs.declared.slot.Data.{Data}
@@ -54,7 +54,7 @@ module _ {W X S B K V : Type 0} (w : Ghosts W X S B K) (rewritten : V → X → 
       goes_on : after ≡ onward_all rewritten onward v view.items
       goes_on = rewrote.onwards ∙ sym (ap (onward_all rewritten onward v) items_are)
 
-  -- by a walk from the topmost node, below no shift
+  -- by a walk from the root, without a shift above it
   module _ (kept : Kept w reach links front) (shows : seen w.weaving links front ≡ view) (values : Valued w.weaving w.is_item w.is_value (all view.items)) (by : B) (still : by ≡ w.weaving.still) where
     pub can_rewrite : CanRewriteAt w rewritten onward links v links.root by 128
     unfolding Kept CanRewriteAt

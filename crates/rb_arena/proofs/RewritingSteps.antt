@@ -34,7 +34,7 @@ module _ {W X S B K V : Type 0} (w : Ghosts W X S B K) (l : LawsOf w) (rewritten
 
   module _ (old : Links (Data X S B)) (v : V) (i : ℕ) (acc : B) (n : ℕ) (slot : Slot (Data X S B)) (read : AtSpot old.nodes.live old.root i (λ s. slot ≡ slot_of s)) where
     module _ (beside t : Tree (Data X S B)) (k : Hole (Data X S B)) (can : Can beside old v (Some i) acc n k t) where
-      -- the topmost node is as it was read
+      -- the root is unchanged since it was read
       is : slot ≡ slot_of (spot (part.z w l rewritten onward beside old v i acc n k t can))
       is = let z = part.z w l rewritten onward beside old v i acc n k t can in read (spot z) z.can.0
 

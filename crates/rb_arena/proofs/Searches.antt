@@ -1,4 +1,4 @@
--- A search from where it stands down, by where it stands.
+-- A search down from its position.
 use Rattle.std.proofs.Common.{◌≡◌, ℕ, suc, ◌+◌, ◌-◌, ◌<◌, ◌≤◌, max, List, [], ◌∷◌, ◌++◌, Option, Some, None, refl, sym, ap, ◌∙◌, subst, arith, append_assoc, append-nil, inl, inr}
 use Rattle.std.specs.Option.{unwrap_or}
 use Rattle.std.specs.Ordering.{nat_cmp}
@@ -38,7 +38,7 @@ module _ {X S B Key : Type 0} (w : Weaving X S B) (L : Lawful w) (is_near : B �
       (us, (ws, listed ∙ (λ i. us ++ (none i ++ e i)), g ∙ ap (sum_of w) same, inr (inl (subst (λ l. Says w turn key l f.1 turns.Left) same h, rb))))
 
   module _ (whole : Tree (Data X S B)) (items : List (ℕ × X)) where
-    -- it has gone down n nodes, and has m more at most
+    -- the search has gone down n nodes, and at most m are left
     abbrev pub Walk : Standing X S B → ℕ → ℕ → Type 0
     Walk s n m = (here : StandsIn w turn key whole items s) × (n + height here.subtree ≤ height whole) × (height here.subtree ≤ m)
 
@@ -52,13 +52,13 @@ module _ {X S B Key : Type 0} (w : Weaving X S B) (L : Lawful w) (is_near : B �
       pub walk_over : m ≡ 0 → Walk s n m → s.at ≡ None
       walk_over none (here, low, few) = here.at_is ∙ ap root_of (no_height here.subtree (omega (arith, few, none)))
 
-      -- at the end the answer is the node that was asked last
+      -- at the end the answer is the node compared last
       pub walk_ends : s.at ≡ None → Walk s n m → Found w turn key items s.last
       walk_ends over (here, low, few) =
           ended items here.earlier (entries w (shift_at w here.hole) here.subtree) (rights w here.hole) s.last (ap (entries w (shift_at w here.hole)) (no_root here.subtree (sym here.at_is ∙ over)))
           here.listed here.right_before here.left_after here.asked
 
-    -- the walk stands at the node id with the slot sl; it has gone down n nodes, and has m more at most, with this one
+    -- the search is at the node `id` with the slot `sl`; it has gone down n nodes, and at most m are left, this one included
     pub record Visit (s : Standing X S B) (n m id : ℕ) (sl : Slot (Data X S B)) : Type 0 where
       pub hole : Hole (Data X S B)
       pub left : Tree (Data X S B)
@@ -138,7 +138,7 @@ module _ {X S B Key : Type 0} {w : Weaving X S B} {L : Lawful w} {is_near : B �
   sum_after : (s : S) → s ≡ sum_of w us → w.join s (w.one x) ≡ sum_of w (us ++ (id, x) ∷ [])
   sum_after s e = ap (λ z. w.join z (w.one x)) e ∙ ap (w.join (sum_of w us)) (sym (L.join_none _)) ∙ sym (sum-append w L us ((id, x) ∷ []))
 
-  -- at the item and the sum that are those of the node
+  -- the position at the node, from its item and the sum before it
   module _ (item : X) (sum : S) (is_item : item ≡ w.shift s.by sl.«data».item) (is_sum : sum ≡ w.join s.before (w.shift_sum s.by sl.«data».before)) where
     item_is : item ≡ x
     item_is = is_item ∙ ap (λ b. w.shift b sl.«data».item) v.by_is
@@ -239,7 +239,7 @@ one_step start n so_far now is one = omega (arith, is, one)
 pub no_turns : (n : ℕ) → 128 ≤ n → 128 - n ≡ 0
 no_turns n le = omega arith
 
--- where a search from the top starts
+-- the start of a search from the root
 pub stands_top : {X S B Key : Type 0} (w : Weaving X S B) (turn : Key → S → X → Turn) (key : Key) (whole : Tree (Data X S B)) {root : Option ℕ} {by : B} {before : S} → root ≡ root_of whole → by ≡ w.still → before ≡ w.none
     → StandsIn w turn key whole (entries w w.still whole) (record { at = root; by = by; before = before; last = None })
 stands_top w turn key whole from still none = record {

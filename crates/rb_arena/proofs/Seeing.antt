@@ -1,4 +1,4 @@
--- What the contracts of the tree see of it, by what its parts do.
+-- The contracts of the tree, from those of its parts.
 use Rattle.std.proofs.Common.{◌≡◌, ℕ, ◌+◌, ◌-◌, ◌*◌, ◌≤◌, ◌<◌, ◌^◌, lit<, List, [], ◌∷◌, ◌++◌, length, Option, None, Some, refl, sym, ap, ◌∙◌, subst, arith}
 use Rattle.std.proofs.Math.Nat.{pow-le-pow_right}
 use Rattle.std.specs.Prelude.{IfSome}
@@ -48,14 +48,14 @@ use Rattle.rb_arena.proofs.Setting.{can_set_there, kept_there}
 use Rattle.rb_arena.proofs.Slots.{upper_at}
 use Rattle.rb_arena.proofs.Splitting as split
 
--- the place after a node from a subtree that hangs there
+-- the place after a node, from the subtree that hangs there
 hangs_past_at : {D : Type 0} (tree : Links D) (id : Option ℕ) (beside t : Tree D) (k : Hole D) → HangsAfter beside tree.nodes.live tree.root id t k → HangsPast tree id
 unfolding HangsPast
 hangs_past_at tree None beside t k hangs = (tt, (beside, (t, (k, hangs))))
 hangs_past_at tree (Some i) beside t k ((e, made), le) =
     let u = upper_at tree.nodes.live tree.root k t made (sym e) in ((u.spot, u.made), (beside, (t, (k, ((e, made), le)))))
 
--- a tree that is kept, and what is seen of it
+-- a kept tree and its value in contracts
 module _ {W X S B K : Type 0} (w : Ghosts W X S B K) (reach : B) (links : Links (Data X S B)) (front : Option ℕ) where
   pub hangs_top : Kept w reach links front → HangsAt links None links.root
   unfolding Kept HangsAt
@@ -133,7 +133,7 @@ module _ {W X S B K : Type 0} (w : Ghosts W X S B K) (reach : B) (links : Links 
     stores_beside (l, fits, kept) shows (us, (x, (vs, e))) =
         let n = node_of w reach links front kept us id x vs (ap (λ l. l.items) shows) e in (l, (reach, (kept.beside, (us, (x, (vs, stored_there n, kept.first))))))
 
-    -- the item leaves
+    -- the item is removed
     module _ (new : Links (Data X S B)) where
       shows_left : LawsOf w → (kept : KeepsWithin w reach links front) → seen w.weaving links front ≡ view → Leaves w links new id → map.len new.nodes.live + 1 ≡ map.len links.nodes.live
           → (us : List (ℕ × X)) (x : X) (vs : List (ℕ × X)) → SplitsAt view.items id us x vs → Shows w reach new front (us ++ vs) view.loose
@@ -158,7 +158,7 @@ module _ {W X S B K : Type 0} (w : Ghosts W X S B K) (reach : B) (links : Links 
       unfolding Kept seen
       loose_left (l, fits, kept) shows (us, (x, (vs, e))) leaves many = (shows_left l kept shows leaves many us x vs e).2
 
-    -- the item comes to the front of the loose ones
+    -- the item is put in front of the loose items
     module _ (new : Links (Data X S B)) where
       shows_lifted : LawsOf w → (kept : KeepsWithin w reach links front) → seen w.weaving links front ≡ view → Loosens w links new id front → map.len new.nodes.live ≡ map.len links.nodes.live
           → (us : List (ℕ × X)) (x : X) (vs : List (ℕ × X)) → SplitsAt view.items id us x vs → Shows w reach new (Some id) (us ++ vs) ((id, x) ∷ view.loose)
@@ -191,7 +191,7 @@ module _ {W X S B K : Type 0} (w : Ghosts W X S B K) (reach : B) (links : Links 
   stores_within (l, fits, kept) = (l, (kept.beside, (_, all_stored w reach links front kept)))
 
   module _ (mid : Links (Data X S B)) (by : B) (found : Option B) (many : map.len mid.nodes.live ≡ map.len links.nodes.live) where
-    -- where the shift is too great for any tree, all stays as it was
+    -- if the shift is too great for any tree, nothing changes
     module _ (none : found ≡ None) where
       levelled : (kept : KeepsWithin w reach links front) → FindsReach w links mid reach by found
           → MendedBeside w reach kept.beside mid (all_items w reach links front kept) × (w.widened w.weaving.still by ≡ None)
@@ -226,7 +226,7 @@ module _ {W X S B K : Type 0} (w : Ghosts W X S B K) (reach : B) (links : Links 
         unfolding Kept seen
         loose_stayed (l, fits, kept) shows finds = (stayed kept finds).2 ∙ loose_seen w reach links front kept (ap (λ l. l.loose) shows)
 
-    -- else the tree is within a reach that the shift widens
+    -- otherwise the tree lies within a reach that the shift widens
     module _ (wide : B) (some : found ≡ Some wide) (view : Listed X) (id : Option ℕ) where
       stored : (kept : KeepsWithin w reach links front) → FindsReach w links mid reach by found
           → (r : B) × StoresBeside w mid r kept.beside (all_items w reach links front kept) × (w.widened r by ≡ Some wide)
@@ -394,7 +394,7 @@ module _ {W X S B K : Type 0} (w : Ghosts W X S B K) (reach : B) (links : Links 
       unfolding Kept seen
       loose_set (l, fits, kept) shows (us, (x, (vs, e))) value sum is_own sets = (shows_set l kept shows value sum is_own us x vs e new many sets).2
 
--- the front loose node lands at a place
+-- the front loose node is put at a place
 module _ {W X S B K : Type 0} (w : Ghosts W X S B K) (reach : B) (links : Links (Data X S B)) (front : Option ℕ) where
   pub no_loose : (view : Listed X) → Kept w reach links front → seen w.weaving links front ≡ view → front ≡ None → view.loose ≡ []
   unfolding Kept seen
@@ -489,7 +489,7 @@ module _ {W X S B K : Type 0} (w : Ghosts W X S B K) (reach : B) (links : Links 
             ∙ others_are w.weaving l.laws (landing, (the_front l.laws kept starts).1.0.item) e (entries w.weaving w.weaving.still (rest l.laws kept starts)) es
             (sym (loose_list nodes next loses (over w links nodes) refl refl view to at item l kept shows place_ first value sum) ∙ is)
 
--- the steps on its way there
+-- the number of steps to it
 module _ {W X S B K : Type 0} (w : Ghosts W X S B K) (tree : Links (Data X S B)) (at : Option (ℕ × Side)) (id : ℕ) (item : X) where
   pub land_heads : CanLand w tree at id item → HeadsChain tree.nodes id
   unfolding CanLand
@@ -524,7 +524,7 @@ module _ {W X S B K : Type 0} (w : Ghosts W X S B K) (links new : Links (Data X 
   unfolding seen
   loose_same = λ i. loose_in w.weaving (same i) front
 
--- a search from the top
+-- a search from the root
 module _ {W X S B K : Type 0} (w : Ghosts W X S B K) (reach : B) (links : Links (Data X S B)) (front : Option ℕ) (key : K) (s : Standing X S B)
     (is_top : s.at ≡ links.root) (is_still : s.by ≡ w.weaving.still) (is_none : s.before ≡ w.weaving.none) (last : s.last ≡ None) where
   at_top : (kept : KeepsWithin w reach links front) → StandsIn w.weaving w.turn key kept.tree (entries w.weaving w.weaving.still kept.tree) s
@@ -554,7 +554,7 @@ module _ {W X S B K : Type 0} (w : Ghosts W X S B K) (reach : B) (links : Links 
         let square : (size kept.tree + 1) * (size kept.tree + 1) ≡ (length view.items + 1) ^ 2 = sym (square_is (size kept.tree + 1)) ∙ ap (λ k. (k + 1) ^ 2) n in
         omega (arith, up, few, square)
 
--- a search that goes on so
+-- a search that goes on after its climb
 module _ {W X S B K : Type 0} (w : Ghosts W X S B K) (tree : Links (Data X S B)) (n : ℕ) (key : K) (next : Next X S B) where
   pub found_at_stop : (found : ℕ × X × S) → next ≡ next_is.Stop found → FindsOn w tree n key next (Some found)
   unfolding FindsOn

@@ -1,4 +1,4 @@
--- An item that takes the place of another.
+-- Replacement of an item.
 use Rattle.std.proofs.Common.{◌≡◌, ℕ, Bool, true, false, List, [], ◌∷◌, ◌++◌, length, length-append, Option, sym, ap, ◌∙◌, subst, arith, append_assoc}
 use Rattle.std.specs.Ordering.{nat_cmp}
 use Rattle.std.specs.FinMap as map

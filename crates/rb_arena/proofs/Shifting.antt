@@ -1,4 +1,4 @@
--- A climb that moves the items after a place.
+-- A walk up that moves the items after a place.
 use Rattle.std.proofs.Common.{◌≡◌, ℕ, suc, ◌+◌, Bool, ◌∷◌, Option, Some, None, refl, sym, ap, ◌∙◌, subst, arith}
 use Rattle.std.specs.Prelude.{IfSome}
 use Rattle.std.proofs.lemmas.List.{map-append}
@@ -22,7 +22,7 @@ use Rattle.rb_arena.specs.declared.links.Links.{Links}
 use Rattle.rb_arena.specs.Nodes.{Rewritten}
 use Rattle.rb_arena.specs.Shifting.{CanMove, CanShift, CanShiftUp, MovesSoFar, ShiftsUp}
 
--- the place is that of a hole of some tree, and that tree with the rest of the path moved is the whole one
+-- the place is that of a hole of some tree; moving the rest of the path in that tree gives the whole moved tree
 abbrev pub Shifting : {X S B : Type 0} → Weaving X S B → (B → Type 0) → (X → Type 0) → map.FinMap nat_cmp (Slot (Data X S B)) → Option ℕ → Tree (Data X S B) → Option (ℕ × Side) → B → ℕ → Tree (Data X S B) → Type 0
 Shifting {X = X} {S = S} {B = B} w is_near is_item m root beside at by n whole =
     (t : Tree (Data X S B)) × ((k : Hole (Data X S B)) × CanShift w is_near is_item m root beside at by n t k × (plug (moved w by k) t ≡ whole))
@@ -81,7 +81,7 @@ module _ {X S B : Type 0} (w : Weaving X S B) (L : Lawful w) (is_near : B → Ty
         (subst (AllItems w is_item) (map-append (λ e. (e.0, w.shift by e.1)) here_ (rights w k)) items) in
         (fork c i (moved_datum w by d) t x, (k, ((up s made, done s made), near, slack.1, after, omega (arith, le)), same))
 
-    -- one that it leaves to the right stays
+    -- a node that the path leaves to the right is unchanged
     pub passed_right : (i : ℕ) (at : Option (ℕ × Side)) → Shifting w is_near is_item m root beside (Some (i, Right)) by (suc n) whole → AtSpot m root i (λ s. at ≡ place_of s.hole)
         → Shifting w is_near is_item m root beside at by n whole
     unfolding Above

@@ -1,4 +1,4 @@
--- What the slot of a node tells of the subtrees below it, where the node above it stands, and which nodes stay live.
+-- The slot of a node: the subtrees below it, the node above it, and the nodes that stay live.
 use Rattle.std.proofs.Common.{◌≡◌, ℕ, Bool, Option, None, Some, refl, sym, ap, ◌∙◌, subst}
 use Rattle.std.specs.Prelude.{IfSome, IsSome}
 use Rattle.std.proofs.lemmas.Bool.{false≢true}
@@ -27,12 +27,12 @@ module _ {D : Type 0} where
   child-slot Left s = refl
   child-slot Right s = refl
 
-  -- what is read for a child is the name of the subtree there
+  -- the name read for a child is that of the subtree's root
   pub child_there : (side : Side) (s : Spot D) (slot : Slot D) (o p : Option ℕ) → slot ≡ slot_of s → o ≡ child side slot → o ≡ p → root_of (below side s) ≡ p
   child_there side s slot o p is read named = sym (child-slot side s) ∙ ap (child side) (sym is) ∙ sym read ∙ named
 
   module _ (m : map.FinMap nat_cmp (Slot D)) (root : Option ℕ) where
-    -- the node above a hole, by the hole's place
+    -- the node above a hole, from the hole's place
     pub record Upper (k : Hole D) (t : Tree D) (at : ℕ × Side) : Type 0 where
       pub spot : Spot D
       pub made : Made spot.beside m root (plug spot.hole (here spot at.0))
@@ -50,7 +50,7 @@ module _ {D : Type 0} where
         let (red, (d, x, k2, same)) = hole_on k at.0 at.1 named in
         subst (λ l. Upper l t at) (sym same) (upper_on beside at.1 red at.0 d x k2 t (subst (λ l. Made beside m root (plug l t)) same h))
 
-    -- the node above a node, by what was read of its place
+    -- the node above a node, from what was read of its place
     pub parent_of : (s : Spot D) (i : ℕ) → Made s.beside m root (plug s.hole (here s i)) → {place : Option (ℕ × Side)} → AtSpot m root i (λ q. place ≡ place_of q.hole) → {at : ℕ × Side} → place ≡ Some at
         → Upper s.hole (here s i) at
     parent_of s i h told is = upper_at s.hole (here s i) h (sym (told s h) ∙ is)
@@ -64,12 +64,12 @@ pub above_lives : {D : Type 0} (m : map.FinMap nat_cmp (Slot D)) (root : Option 
 above_lives m root s i h = above_some m (above s.hole) (live_above m root s i h)
 
 module _ {D : Type 0} where
-  -- a node that is written leaves as many
+  -- writing a node leaves the number of live nodes unchanged
   pub len_written : (m m2 : map.FinMap nat_cmp (Slot D)) (i : ℕ) (slot written : Slot D) → m2 ≡ map.insert m i written → map.get m i ≡ Some slot → map.len m2 ≡ map.len m
   len_written m m2 i slot written new is = ap map.len new ∙ len_insert m i written (slot, is)
 
   module _ (nodes : Nodes (Slot D)) (root : Option ℕ) (i : ℕ) where
-    -- a node of a tree is live, and so are those to which it links
+    -- a node of a tree is live, and so are the nodes that it links to
     pub lives_here : (s : Spot D) → Made s.beside nodes.live root (plug s.hole (here s i)) → Lives nodes i
     unfolding Lives
     lives_here s h = (_, slot_here nodes.live root s i h)
@@ -92,7 +92,7 @@ module _ {D : Type 0} where
 
   pub ruleset reading = (lives_here, slot_read, above_read, left_read, right_read)
 
-  -- a node that was found is live, and stays so
+  -- a node that was found is live and stays live
   pub found_lives : (nodes : Nodes (Slot D)) (i : ℕ) (slot : Slot D) → map.get nodes.live i ≡ Some slot → Lives nodes i
   unfolding Lives
   found_lives nodes i slot is = (slot, is)
@@ -103,7 +103,7 @@ module _ {D : Type 0} where
 
   pub ruleset living = (found_lives, still_lives)
 
-  -- a write leaves all live that were
+  -- a write leaves all live nodes live
   pub stay_same : (nodes : Nodes (Slot D)) → KeepLive nodes nodes
   unfolding KeepLive
   stay_same nodes id live = live
@@ -126,7 +126,7 @@ module _ {D : Type 0} where
 
   pub ruleset rewriting = (found_lives, rewritten_so)
 
-  -- links to live nodes stay such
+  -- links to live nodes remain links to live nodes
   pub kept_link : (old new : Nodes (Slot D)) (o : Option ℕ) → KeepLive old new → LivesIf old o → LivesIf new o
   unfolding KeepLive LivesIf
   kept_link old new o kept live = IfSome_then o {P = λ i. IsLive old i} {Q = λ i. IsLive new i} live kept
@@ -181,7 +181,7 @@ module _ {D : Type 0} where
 
   pub ruleset turning = (found_lives, still_lives, child_lives, grandchild_lives, no_child, place_lives, kept_place, turned_so)
 
-  -- where a node is, by its links
+  -- the position of a node, from its links
   pub placed_top : (s : Spot D) (slot : Slot D) → slot ≡ slot_of s → slot.parent ≡ None → place_of s.hole ≡ None
   placed_top s slot is none = no_place s.hole (ap (λ n. n.parent) (sym is) ∙ none)
 
@@ -191,7 +191,7 @@ module _ {D : Type 0} where
 
   pub ruleset places = (placed_top, placed_on)
 
--- the sum that the topmost node below a node keeps
+-- the sum kept by the root of a node's subtree
 pub whole_below : {X S B : Type 0} (w : Weaving X S B) (m : map.FinMap nat_cmp (Slot (Data X S B))) (root : Option ℕ) (s : Spot (Data X S B)) (i : ℕ) → Made s.beside m root (plug s.hole (here s i)) → (side : Side)
     → whole_in w m (root_of (below side s)) ≡ whole_at w (below side s)
 whole_below w m root s i h side = whole_in_is w m (Some i) (below side s) (makes_below m root s i h side)

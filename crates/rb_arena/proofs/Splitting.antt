@@ -60,7 +60,7 @@ module _ {X S B : Type 0} (w : Weaving X S B) where
         sum,
       )
 
-      -- the place after the item, from which the others may move
+      -- the place after the item, from which the later items may move
       abbrev pub Ready : Type 0
       Ready =
           (u : Tree (Data X S B)) × ((k : Hole (Data X S B)) × HangsAfter beside m root id u k

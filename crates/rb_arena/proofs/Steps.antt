@@ -1,4 +1,4 @@
--- One step of the mending: what each case does to the tree.
+-- One step of the rebalancing after an insertion: the effect of each case on the tree.
 use Rattle.std.proofs.Common.{◌≡◌, ℕ, suc, ◌-◌, Bool, true, false, List, Option, refl, sym, ap, ◌∙◌, subst, arith, ◌⊎◌, inl, inr}
 use Rattle.std.proofs.lemmas.Bool.{true≢false}
 use Rattle.std.specs.Ordering.{nat_cmp}
@@ -24,14 +24,14 @@ use Rattle.rb_arena.specs.Mending.{bent, case_of}
 use Rattle.rb_arena.specs.Rising.{Mended, Rising}
 
 module _ {D : Type 0} where
-  -- the red node's parent is red and the topmost node
+  -- the red node's parent is red and the root
   pub record UnderRoot (k : Hole D) (p : ℕ) : Type 0 where
     pub side : Side
     pub datum : D
     pub far : Tree D
     pub is : k ≡ on side true p datum far top
 
-  -- its parent and the parent's sibling are red
+  -- its parent and its uncle are red
   pub record UnderUncle (k : Hole D) (p u g : ℕ) : Type 0 where
     pub side : Side
     pub datum : D
@@ -44,7 +44,7 @@ module _ {D : Type 0} where
     pub up : Hole D
     pub is : k ≡ on side true p datum far (on upper false g grand (fork true u uncle left right) up)
 
-  -- its parent alone is red, on that side of the grandparent; it is on the side s of the parent
+  -- its parent is red on that side of the grandparent, its uncle is not; the node is on the side s of the parent
   pub record Alone (h : ℕ) (k : Hole D) (s : Side) (p : ℕ) (upper : Side) (g : ℕ) : Type 0 where
     pub datum : D
     pub far : Tree D
@@ -54,7 +54,7 @@ module _ {D : Type 0} where
     pub is : k ≡ on s true p datum far (on upper false g grand uncle up)
     pub even : Rb false h uncle
 
-  -- what each case says of the nodes above
+  -- the nodes above, by case
   abbrev pub Shape : ℕ → Hole D → Case → Type 0
   Shape h k Settled = (k ≡ top) ⊎ ((s : Side) × ((p : ℕ) × (d : D) × (x : Tree D) × (k2 : Hole D) × (k ≡ on s false p d x k2)))
   Shape h k (RedRoot p) = UnderRoot k p
@@ -98,7 +98,7 @@ red_root h Left false i d x y (e, r) = sym e
 red_root h Right false i d x y (e, r) = sym e
 
 module _ {X S B : Type 0} (w : Weaving X S B) (L : Lawful w) (is_near : B → Type 0) where
-  -- colours tell nothing of the items
+  -- the items do not depend on colours
   pub recoloured : (k : Hole (Data X S B)) (s : Side) (c red : Bool) (i : ℕ) (d : Data X S B) (x y : Tree (Data X S B)) (es : List (ℕ × X))
       → Lists w is_near (plug k (forked s c i d x y)) es → Lists w is_near (plug k (forked s red i d x y)) es
   recoloured k Left c red i d x y es (h, e) =
@@ -121,10 +121,10 @@ module _ {X S B : Type 0} (w : Weaving X S B) (L : Lawful w) (is_near : B → Ty
       turned_at m2 root2 Right done h (wv, e) =
           let (low, (high, made, (wv2, e2))) = done (record { beside = beside; hole = k; red = a; datum = dn; left = far; right = fork b c dc mid out }) h wv in (low, (high, made, (wv2, e2 ∙ e)))
 
--- what the arms do, for a red tree in a hole that may want a black one
+-- the effect of each case on a red tree in a hole that may require a black one
 module _ {X S B : Type 0} {w : Weaving X S B} {is_near : B → Type 0} {beside : Tree (Data X S B)} {m : map.FinMap nat_cmp (Slot (Data X S B))} {root : Option ℕ} {es : List (ℕ × X)} {i n : ℕ}
     (r : Rising w is_near beside m root es i n) where
-  -- its topmost node
+  -- its root
   pub record Topmost (s : Side) : Type 0 where
     pub datum : Data X S B
     pub near : Tree (Data X S B)
@@ -142,7 +142,7 @@ module _ {X S B : Type 0} {w : Weaving X S B} {is_near : B → Type 0} {beside :
   pub stands_red : Made beside m root (plug r.hole (here own_spot i))
   stands_red = subst (λ q. Made beside m root (plug r.hole q)) (topmost Left).is r.made
 
-  -- the case that was found tells of the nodes above
+  -- the nodes above, from the case found
   pub case_found : {found : Case} → AtSpot m root i (λ s. found ≡ case_of s.hole) → {c : Case} → found ≡ c → Shape r.black r.hole c
   case_found told {c} is = subst (Shape r.black r.hole) (sym (told own_spot stands_red) ∙ is) (case_shape r.black r.hole r.fits)
 
@@ -169,17 +169,17 @@ module _ {X S B : Type 0} {w : Weaving X S B} {is_near : B → Type 0} {beside :
       C.blackened_root u.side r.black r.subtree r.red p u.datum u.far (subst (Fits false r.black) u.is r.fits),
     )
 
-  -- a red uncle: the parent and the uncle turn black, and the grandparent red
+  -- a red uncle: the parent and the uncle become black, the grandparent red
   module _ {p u g : ℕ} (v : UnderUncle r.hole p u g) where
-    -- the grandparent stands above
+    -- the grandparent is in the tree
     pub uncle_above : n ≡ 0 → ⊥
     uncle_above top_ = let deep = ap depth v.is in let few = r.few in omega (arith, deep, few, top_)
 
-    -- the grandparent's subtree, by which of the three are red
+    -- the grandparent's subtree, by the colours of the three
     abbrev pub Family : Bool → Bool → Bool → Tree (Data X S B)
     Family parent uncle grand = forked v.upper grand g v.grand (forked v.side parent p v.datum r.subtree v.far) (fork uncle u v.uncle v.left v.right)
 
-    -- the same, by the uncle's place
+    -- the same, by the uncle's side
     abbrev Beside : Bool → Bool → Hole (Data X S B)
     Beside parent grand = on (other v.upper) grand g v.grand (forked v.side parent p v.datum r.subtree v.far) v.up
 
@@ -223,7 +223,7 @@ module _ {X S B : Type 0} {w : Weaving X S B} {is_near : B → Type 0} {beside :
             }
 
   module _ (L : Lawful w) (is_item : X → Type 0) (is_value : S → Type 0) where
-    -- no red uncle, and the node on its parent's side of it
+    -- no red uncle, and the node is on its parent's side
     module _ {s : Side} {p g : ℕ} (o : Alone r.black r.hole s p s g) where
       made_outer : Made beside m root (plug o.up (forked s false g o.grand (forked s true p o.datum r.subtree o.far) o.uncle))
       made_outer = subst (λ l. Made beside m root (plug l r.subtree)) o.is r.made
@@ -240,7 +240,7 @@ module _ {X S B : Type 0} {w : Weaving X S B} {is_near : B → Type 0} {beside :
           let (rb, fit) = C.outer s r.black r.subtree r.red p o.datum o.far g o.grand high low o.uncle o.up o.even (subst (Fits false r.black) o.is r.fits) in
           let t = forked s false p high r.subtree (forked s true g low o.far o.uncle) in (plug o.up t, made2, lists2, C.plugged false (suc r.black) o.up t rb fit)
 
-    -- the node on the other side: a turn at the parent makes it the other case
+    -- the node is on the other side: a rotation at the parent gives the other case
     module _ {s : Side} {p g : ℕ} (q : Alone r.black r.hole s p (other s) g) where
       abbrev z : Topmost s
       z = topmost s

@@ -1,4 +1,4 @@
--- Another item at a node, and a walk up that ends there where the sum stays as it was.
+-- Replacement of a node's item. The sums of its ancestors are recomputed unless the node's own sum is unchanged.
 use Rattle.std.proofs.Common.{◌≡◌, ℕ, ◌∷◌, List, Some, refl, sym, ap, ◌∙◌, subst}
 use Rattle.std.specs.FinMap as map
 use Rattle.rb_rules.specs.declared.slot.Data.{Data}
@@ -40,7 +40,7 @@ module _ {X S B : Type 0} (w : Weaving X S B) (L : Lawful w) (is_near : B → Ty
       let all = sum-append w L es ((i, w.shift (shift_at w k) d.item) ∷ entries w acc t) ∙ ap (λ z. w.join (sum_of w es) (w.join one z)) e ∙ sym (sum-append w L es ((i, w.shift (shift_at w k) d.item) ∷ entries w acc u)) in
       swapped k (fork c i d x t) (fork c i d x u) h all (a, b ∙ all, l, v)
 
--- another item at a node
+-- replacement of the item at a node
 module _ {W X S B K : Type 0} (w : Ghosts W X S B K) (old : Links (Data X S B)) (id : ℕ) (item : X) where
   module _ (slot : Slot (Data X S B)) (found : map.get old.nodes.live id ≡ Some slot) (left right : S)
       (left_is : left ≡ whole_in w.weaving old.nodes.live slot.left) (right_is : right ≡ whole_in w.weaving old.nodes.live slot.right) where
@@ -82,14 +82,14 @@ module _ {W X S B K : Type 0} (w : Ghosts W X S B K) (old : Links (Data X S B)) 
         alike : shape (plug s.hole now) ≡ shape (with_own s id item)
         alike = each-plug (λ (e : Data X S B). (e.item, e.delta)) s.hole now (here (own s) id) refl
 
-        -- the sum stays
+        -- the sum is unchanged
         stays : datum.whole ≡ slot.«data».whole → RenewedFrom w.weaving (w.within reach) s.beside mid.nodes.live mid.root (with_own s id item)
         stays same =
             let whole = sym (ap (λ d. d.whole) (data_is w old id slot found left right left_is right_is s h.0)) ∙ sym same ∙ ap (λ d. d.whole) datum_is in
             let sums = sym was_woven.1 ∙ ap (w.weaving.shift_sum (shift_at w.weaving s.hole)) whole ∙ now_woven.1 in
             (plug s.hole now, made_now, swapped w.weaving l.laws (w.within reach) s.hole (here s id) now h.1 sums now_woven, alike)
 
-        -- or those above are still to be renewed
+        -- otherwise the sums above are still to be recomputed
         slack_now : IsSlack w.weaving (w.within reach) w.is_item w.is_value s.beside mid.nodes.live mid.root slot.parent 128 (plug s.hole now)
         slack_now = (
           s.hole,

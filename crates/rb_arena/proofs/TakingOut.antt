@@ -1,4 +1,4 @@
--- What is left where a node has left the tree: it goes from the memory, or comes before the loose ones.
+-- The nodes after a removal: the node is removed from the memory, or put in front of the loose ones.
 use Rattle.std.proofs.Common.{◌≡◌, ℕ, ◌+◌, ◌-◌, List, [], ◌∷◌, ◌++◌, Bool, false, Option, Some, None, refl, sym, ap, ◌∙◌, subst, length, arith}
 use Rattle.std.specs.Prelude.{IfSome}
 use Rattle.std.proofs.lemmas.Cmp.{nat_cmp_total}
@@ -26,12 +26,12 @@ use Rattle.rb_arena.proofs.Growing.{depth_height, length-entries, not_high}
 use Rattle.rb_arena.proofs.Leaving.{some_left, stored_there}
 use Rattle.rb_arena.proofs.Locating.{lying, locate_in}
 
--- a node that is taken out leaves one less
+-- removing a node decreases the number of live nodes by one
 pub len_taken : {V : Type 0} (m m2 : map.FinMap nat_cmp V) (id : ℕ) (x : V) → m2 ≡ map.remove m id → map.get m id ≡ Some x → map.len m2 + 1 ≡ map.len m
 len_taken m m2 id x new is =
     let some = some_left m id x is in let fewer : map.len m2 ≡ map.len m - 1 = ap map.len new ∙ map.len-remove nat_cmp_total m id ∙ rw is refl in omega (arith, some, fewer)
 
--- a live node that comes before a chain leaves as many
+-- putting a live node in front of a chain leaves the number of live nodes unchanged
 pub len_strung : {X S B : Type 0} (mid : Links (Data X S B)) (m2 : map.FinMap nat_cmp (Slot (Data X S B))) (id : ℕ) (front : Option ℕ) (datum : Data X S B) → m2 ≡ strung mid.nodes.live id front datum → Lives mid.nodes id → map.len m2 ≡ map.len mid.nodes.live
 unfolding Lives
 len_strung mid m2 id front datum new lives =
@@ -54,7 +54,7 @@ module _ {W X S B K : Type 0} (w : Ghosts W X S B K) where
       (lying beside s, (subst (Made beside tree.nodes.live tree.root) (sym whole) made, woven, omega (arith, deep, high, low)), val)
 
   module _ (old mid : Links (Data X S B)) (id : ℕ) (at : Option (ℕ × Side)) (red : Bool) where
-    -- the node goes from the memory
+    -- the node is removed from the memory
     module _ (bare : Links (Data X S B)) (gone : bare.nodes.live ≡ map.remove mid.nodes.live id) (top : bare.root ≡ mid.root) where
       taken : (reach : B) (beside : Tree (Data X S B)) (es : List (ℕ × X)) → Unlinked w.weaving (w.within reach) w.is_item w.is_value beside mid.nodes.live mid.root at red id es
           → (k : Hole (Data X S B)) × (lefts w.weaving k ++ rights w.weaving k ≡ es) × Emptied w.weaving (w.within reach) w.is_item w.is_value beside bare.nodes.live bare.root at red k
@@ -72,7 +72,7 @@ module _ {W X S B K : Type 0} (w : Ghosts W X S B K) where
           let (k, list, empty) = taken reach beside (us ++ vs) (unlinked reach beside us x vs st) in
           subst (MendedBeside w reach beside new) list (settled reach beside k empty)
 
-    -- the node comes before the loose ones
+    -- the node is put in front of the loose ones
     module _ (front : Option ℕ) where
       pub front_lives : StoresItemBeside w old id front → Unlinks w old mid id at red → IfSome front (λ i. IsLive mid.nodes i)
       unfolding StoresItemBeside Unlinks

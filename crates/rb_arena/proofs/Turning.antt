@@ -1,4 +1,4 @@
--- A turn that keeps the sums right: what its reads find, and what its writes leave.
+-- A rotation that keeps the sums right: the values it reads, and the effect of its writes.
 use Rattle.std.proofs.Common.{◌≡◌, ℕ, Option, None, Some, sym, refl}
 use Rattle.std.proofs.lemmas.Bool.{false≢true}
 use Rattle.std.specs.FinMap as map

@@ -1,4 +1,4 @@
--- A walk over the items of a tree that is kept: where it goes on, and what its steps cost.
+-- A walk over the items of a kept tree: where it goes on, and the cost of its steps.
 use Rattle.std.proofs.Common.{◌≡◌, ℕ, ◌+◌, ◌-◌, ◌*◌, ◌^◌, ◌≤◌, Bool, true, false, cond, eqb, eq-eqb, List, [], ◌∷◌, ◌++◌, length, Option, Some, None, refl, sym, ap, ◌∙◌, subst, arith, append_assoc, lit<, pow-add}
 use Rattle.std.proofs.Math.Nat.{mul-le-mul, pow-le-pow_right}
 use Rattle.std.proofs.lemmas.Bool.{ne_eqb}
@@ -31,7 +31,7 @@ no_one : (b : Bool) → cond b 1 0 ≤ 0 → b ≡ false
 no_one true le = absurd (omega arith)
 no_one false le = refl
 
--- twice the longest path
+-- twice the number of nodes on the longest path
 twice : (n h k : ℕ) → n ≤ 2 * h → 2 ^ h ≤ k * k → 2 ^ n ≤ k ^ 4
 twice n h k le few =
     let p = 2 ^ h in let q = k * k in
@@ -41,7 +41,7 @@ twice n h k le few =
     let four : k ^ 4 ≡ q * q = pow-add k 2 2 ∙ (λ i. square_is k i * square_is k i) in omega (arith, up, same, most, four)
 
 module _ {D : Type 0} where
-  -- how many nodes above the hole have it on that side
+  -- the number of nodes above the hole that have it on that side
   abbrev frames : Side → Hole D → ℕ
   frames side top = 0
   frames side (on z c i d x k) = one_on side z + frames side k
@@ -86,14 +86,14 @@ module _ {D : Type 0} where
       due_is : due_at whole (Some id) ≡ (height whole + frames Right k) - frames Left k
       due_is = ap (λ n. (height whole + n) - turns Left id whole) (turns_at Right) ∙ ap (λ n. (height whole + frames Right k) - n) (turns_at Left)
 
-      -- no more nodes stand above one than on the longest path
+      -- the number of nodes above a node is at most the height of the tree
       few_frames : frames Left k + frames Right k + 1 ≤ height whole
       few_frames = let deep = depth_height k (fork c id d x y) in let high = ap height same in let all = depth-frames k in omega (arith, deep, high, all)
 
       pub due_few : due_at whole (Some id) ≤ 2 * height whole
       due_few = let is = due_is in let few = few_frames in omega (arith, is, few)
 
-    -- a node, by how many nodes above have it on their right and how many on their left
+    -- a node, with the numbers of ancestors that have it on their right and on their left
     record Stop (j before after : ℕ) : Type 0 where
       hole : Hole D
       red : Bool
@@ -127,7 +127,7 @@ module _ {D : Type 0} where
         (frames Right k, (frames Left k, record { hole = k; red = c; datum = d; left = t; right = x; same = same; before_is = refl; after_is = refl }, omega arith, omega arith))
     rises (on Right c i d x k) t same = higher (up_next k) c i d x k (rises k (fork c i d x t) same)
 
-    -- from a hole down to the first node of what is in it
+    -- from a hole down to the first node of the tree in it
     falls : (k : Hole D) (c : Bool) (i : ℕ) (d : D) (x y : Tree D) → plug k (fork c i d x y) ≡ whole
         → (j : ℕ) × ((after : ℕ) × (above (first_hole k (fork c i d x y)) ≡ Some j) × Stop j (frames Right k) after × (after + 1 ≡ frames Left k + edge Left (fork c i d x y)))
     falls k c i d tip y same =
@@ -158,7 +158,7 @@ module _ {D : Type 0} where
           let there : due_at whole o ≡ due_at whole (Some j) = ap (due_at whole) (next ∙ named) in
           omega (arith, fell, is, due, few, due_next, lows, there)
 
--- the items from one of them on
+-- the items from a given item on
 items_at : {X : Type 0} (us : List (ℕ × X)) (id : ℕ) (x : X) (vs : List (ℕ × X)) → times_named id (us ++ (id, x) ∷ vs) ≤ 1 → items_from (us ++ (id, x) ∷ vs) id ≡ (id, x) ∷ vs
 items_at [] id x vs once = ap (λ b. cond b ((id, x) ∷ vs) (items_from vs id)) (eq-eqb id id refl)
 items_at {X} (u ∷ us) id x vs once =
@@ -178,7 +178,7 @@ module _ {W X S B K : Type 0} (w : Ghosts W X S B K) (reach : B) (links : Links 
   once_each : (j : ℕ) → count j kept.tree ≤ 1
   once_each j = let all = kept.made.once j in omega (arith, all)
 
-  -- what is left from an item on
+  -- the items left from an item on
   module _ (us : List (ℕ × X)) (id : ℕ) (x : X) (vs : List (ℕ × X)) (e : SplitsAt (items_in w.weaving links.nodes.live links.root) id us x vs) where
     abbrev there : Node w reach links front kept us id x vs
     there = node_of w reach links front kept us id x vs refl e
@@ -193,7 +193,7 @@ module _ {W X S B K : Type 0} (w : Ghosts W X S B K) (reach : B) (links : Links 
     due_there : due_at kept.tree (Some id) ≤ 2 * height kept.tree
     due_there = let n = there in let s = n.spot in due_few kept.tree once_each s.hole s.red id s.datum s.left s.right n.whole
 
-    -- the item beside it is the next one
+    -- the node beside it is that of the next item
     next_first : (o : Option ℕ) → IsBeside links id Right o → o ≡ first_or None vs
     next_first o is = beside_there there Right o is
 
@@ -203,7 +203,7 @@ module _ {W X S B K : Type 0} (w : Ghosts W X S B K) (reach : B) (links : Links 
         let n = there in let s = n.spot in let lies : LowAt links id (own_spot n) = (made_there n, low_there n) in
         pays_next kept.tree once_each s.hole s.red id s.datum s.left kept.beside s.right o steps n.whole (is (own_spot n) lies) (after (own_spot n) lies)
 
-  -- the items from the next one on are the ones after this
+  -- the items from the next one on are those after this one
   left_next : (us : List (ℕ × X)) (id : ℕ) (x : X) (vs : List (ℕ × X)) → SplitsAt (items_in w.weaving links.nodes.live links.root) id us x vs
       → IfSome (first_or None vs) (IsItem (items_in w.weaving links.nodes.live links.root)) × ((walked_of w.weaving links (first_or None vs)).left ≡ vs)
   unfolding walked_of

@@ -70,7 +70,7 @@ module _ {D : Type 0} where
   rise_past Right Left c i d x k differ = refl
   rise_past Right Right c i d x k differ = absurd (differ refl)
 
-  -- the way from a node, by whether there is a subtree on that side
+  -- the way from a node, by whether it has a subtree on that side
   way_up : (side : Side) (s : Spot D) → root_of (below side s) ≡ None → way side s ≡ rise (other side) s.hole
   way_up side s none = ap (λ o. elim o [ None ↦ rise (other side) s.hole | Some i ↦ edge (other side) (below side s) ]) none
 
@@ -129,7 +129,7 @@ module _ {D : Type 0} (tree : Links D) where
       over_after next steps nears is = λ beside t k h.
           let (t2, (k2, (e, made), r, le, same, took)) = nears beside t k h in let none = edge_tip side t2 (no_height t2 le) in omega (arith, is, took, none)
 
-    -- the subtree below a node on the walk, if there is one, is live
+    -- the subtree below a node on the walk is live, if there is one
     pub next_lives : (id : ℕ) (here_ next : Option ℕ) (slot : Slot D) (n gone : ℕ) → HangsAt tree from below → NearsEnd tree from below side at here_ n gone → here_ ≡ Some id → node tree.nodes id ≡ Some slot → next ≡ child side slot
         → IfSome next (λ i. IsLive tree.nodes i)
     unfolding HangsAt NearsEnd

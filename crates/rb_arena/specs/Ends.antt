@@ -1,4 +1,4 @@
--- The ends of a subtree in memory, and the node beside a node. A proof sees behind a word here where it opens it.
+-- The ends of a subtree in memory, and the next node on one side. Proofs unfold these definitions explicitly.
 use Rattle.std.specs.Prelude.{◌≡◌, ℕ, ◌+◌, ◌≤◌, Option, Some, None, IfSome}
 use Rattle.rb_rules.specs.declared.slot.Side.{Side}
 use Rattle.rb_rules.specs.declared.slot.Side.TheVariants.{Left, Right}
@@ -9,14 +9,14 @@ use Rattle.rb_arena.specs.Placing.{HoleAt, StartsAt, Hangs, WhereHangs, HangsRig
 use Rattle.rb_arena.specs.RbTree.{first_hole, end_hole, up_on, neighbour_of}
 
 module _ {D : Type 0} where
-  -- the nodes on that edge of a tree
+  -- the number of nodes on one edge of a tree
   abbrev pub edge : Side → Tree D → ℕ
   edge Left tip = 0
   edge Left (fork c i d x y) = 1 + edge Left x
   edge Right tip = 0
   edge Right (fork c i d x y) = 1 + edge Right y
 
-  -- the nodes from a hole up to the nearest that has it on that side, or to the topmost
+  -- the number of nodes from a hole up to the nearest that has it on that side, or up to the root if there is none
   abbrev pub rise : Side → Hole D → ℕ
   rise Left top = 0
   rise Left (on Left c i d x k) = 1
@@ -25,67 +25,68 @@ module _ {D : Type 0} where
   rise Right (on Left c i d x k) = 1 + rise Right k
   rise Right (on Right c i d x k) = 1
 
-  -- the nodes on the way from a node to the one beside it, on that side
+  -- the number of nodes on the way from a node to the next on that side
   abbrev pub way : Side → Spot D → ℕ
   way side s = elim (root_of (below side s)) [ None ↦ rise (other side) s.hole | Some i ↦ edge (other side) (below side s) ]
 
 module _ {D : Type 0} (tree : Links D) where
-  -- a subtree of that name hangs at that place
+  -- a subtree with the root `below` hangs at the place `from`
   unfoldable pub HangsAt : Option (ℕ × Side) → Option ℕ → Type 0
   HangsAt from below = Hangs tree from below
 
-  -- the place is the last one on that side of the subtree that hangs there
+  -- `at` is the last place, on that side, of the subtree at `from`
   unfoldable pub IsEnd : Option (ℕ × Side) → Option ℕ → Side → Option (ℕ × Side) → Type 0
   IsEnd from below side at = WhereHangs tree from below (λ t k. at ≡ place_of (end_hole side k t))
 
-  -- a subtree hangs on the right of the node of that name, which stands in the tree, or at the top where none is named
+  -- the node `id` is in the tree and a subtree hangs on its right; for None, the whole tree hangs at the root
   unfoldable pub HangsPast : Option ℕ → Type 0
   HangsPast id = IfSome id (λ i. Stands tree.nodes.live tree.root i) × HangsRight tree id
 
-  -- the place is the first one of it
+  -- `at` is the first place of that subtree
   unfoldable pub IsFirstPast : Option ℕ → Option (ℕ × Side) → Type 0
   IsFirstPast id at = WhereHangsRight tree id (λ t k. at ≡ place_of (first_hole k t))
 
-  -- so many steps go there
+  -- a walk to that end takes `steps` steps
   unfoldable pub EndsAfter : Option (ℕ × Side) → Option ℕ → Side → ℕ → Type 0
   EndsAfter from below side steps = WhereHangs tree from below (λ t k. steps ≡ edge side t)
 
-  -- a walk to that end has come to a place after so many nodes, where a subtree hangs that is no higher than n nodes
+  -- A walk to that end has reached a place after `gone` nodes. The subtree there has a height of at most n.
   unfoldable pub NearsEnd : Option (ℕ × Side) → Option ℕ → Side → Option (ℕ × Side) → Option ℕ → ℕ → ℕ → Type 0
   NearsEnd from below side at next n gone =
       (beside t : Tree D) (k : Hole D) → StartsAt beside tree.nodes.live tree.root from below t k
       → (t2 : Tree D) × ((k2 : Hole D) × HoleAt beside tree.nodes.live tree.root at t2 k2 × (next ≡ root_of t2) × (height t2 ≤ n)
       × (end_hole side k2 t2 ≡ end_hole side k t) × (gone + edge side t2 ≡ edge side t))
 
-  -- the node stands there, on a path of no more than 126 nodes
+  -- the node is at the spot, on a path of at most 126 nodes
   abbrev pub LowAt : ℕ → Spot D → Type 0
   LowAt id s = Made s.beside tree.nodes.live tree.root (plug s.hole (here s id)) × (depth s.hole + height (here s id) ≤ 126)
 
-  -- it does so somewhere
+  -- the node is at such a spot
   unfoldable pub StandsLow : ℕ → Type 0
   StandsLow id = (s : Spot D) × LowAt id s
 
-  -- that is the nearest node above it that has it on that side
+  -- `found` is the nearest ancestor that has the node on that side, if any
   unfoldable pub IsAboveOn : ℕ → Side → Option ℕ → Type 0
   IsAboveOn id side found = (s : Spot D) → LowAt id s → found ≡ up_on side s.hole
 
-  -- so many steps go up to it
+  -- a walk up to that ancestor takes `steps` steps
   unfoldable pub RisesAfter : ℕ → Side → ℕ → Type 0
   RisesAfter id side steps = (s : Spot D) → LowAt id s → steps ≡ rise side s.hole
 
-  -- the other node stands right above it, if any does
+  -- `parent` is the node's parent, if any
   unfoldable pub IsParent : ℕ → Option ℕ → Type 0
   IsParent id parent = (s : Spot D) → LowAt id s → parent ≡ above s.hole
 
-  -- that is the node right beside it, on that side
+  -- `found` is the next node on that side, if any
   unfoldable pub IsBeside : ℕ → Side → Option ℕ → Type 0
   IsBeside id side found = (s : Spot D) → LowAt id s → found ≡ neighbour_of side id s
 
-  -- so many steps go from it to that one
+  -- a walk to that node takes `steps` steps
   unfoldable pub IsBesideAfter : ℕ → Side → ℕ → Type 0
   IsBesideAfter id side steps = (s : Spot D) → LowAt id s → steps ≡ way side s
 
-  -- a walk up to that node has come, after so many nodes, to one with no more than n nodes above, of which `next` is the lowest
+  -- A walk up to that ancestor has reached the node `low` after `gone` nodes. At most n nodes are above `low`; `next` is its parent, if
+  -- any.
   unfoldable pub NearsAbove : ℕ → Side → ℕ → Option ℕ → ℕ → ℕ → Type 0
   NearsAbove id side low next n gone =
       (s : Spot D) → LowAt id s

@@ -1,7 +1,6 @@
 pub mod Closing
 pub mod Ends
 mod Examples
-pub mod Items
 pub mod Landing
 pub mod Leaving
 pub mod Mending

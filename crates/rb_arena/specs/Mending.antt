@@ -1,4 +1,4 @@
--- How a red node stands to the nodes above it.
+-- The position of a red node relative to its parent, grandparent and uncle.
 use Rattle.std.specs.Prelude.{◌≡◌, ℕ, true, false, cond, Option, Some, None, IfSome}
 use Rattle.std.specs.Ordering.{nat_cmp}
 use Rattle.std.specs.FinMap as map
@@ -10,7 +10,7 @@ use Rattle.rb_rules.specs.Memory.{child}
 use Rattle.rb_arena.specs.declared.mend.Case.{Case}
 use Rattle.rb_arena.specs.declared.mend.Case.TheVariants.{Settled, RedRoot, RedUncle, Outer, Inner}
 
--- by the side of the node and that of its parent
+-- the case by the sides of the node and of its parent, with a red parent and no red uncle
 abbrev pub bent : Side → Side → ℕ → ℕ → Case
 bent Left Left p g = Outer g Left
 bent Right Right p g = Outer g Right

@@ -1,4 +1,4 @@
--- A subtree in memory whose items are rewritten.
+-- Rewriting of the items of a subtree in memory.
 use Rattle.std.specs.Prelude.{◌≡◌, ℕ, List, Option}
 use Rattle.rb_rules.specs.declared.slot.Data.{Data}
 use Rattle.rb_rules.specs.declared.weave.Weave.{Ghosts}
@@ -11,19 +11,19 @@ use Rattle.rb_arena.specs.declared.links.Links.{Links}
 use Rattle.rb_arena.specs.Shifting.{CanLevel}
 
 module _ {W X S B K V : Type 0} (w : Ghosts W X S B K) (rewritten : V → X → X) (onward : V → X → V) where
-  -- the items of a tree, below a path whose shifts come to acc, and all of them rewritten
+  -- the rewritten items of a tree; acc is the sum of the shifts on the path above it
   abbrev pub rewritten_of : V → B → Tree (Data X S B) → List (ℕ × X)
   rewritten_of v acc t = rewritten_all rewritten onward v (entries w.weaving acc t)
 
   module _ (beside : Tree (Data X S B)) (tree : Links (Data X S B)) where
-    -- a subtree of values hangs at that name, no higher than n nodes, whose items are values once rewritten
+    -- a subtree t of values with a height of at most n hangs at the name `at`, and its rewritten items are values
     abbrev pub CanRewrite : V → Option ℕ → B → ℕ → Hole (Data X S B) → Tree (Data X S B) → Type 0
     CanRewrite v at acc n k t =
         CanLevel w.weaving w.is_near w.is_item w.is_value beside tree.nodes.live tree.root at acc n k t
         × Valued w.weaving w.is_item w.is_value (rewritten_of v acc t)
 
-    -- in the hole stands another subtree with the colours and names of t, over its items rewritten, with the right sums; no reach
-    -- within which the shifts of t lay is too narrow for it
+    -- The hole holds a subtree with the colours and names of t, the rewritten items and the right sums. Any reach that contained the
+    -- shifts of t contains its shifts.
     pub record Rewrote (v after : V) (acc : B) (k : Hole (Data X S B)) (t : Tree (Data X S B)) (whole : S) : Type 0 where
       pub subtree : Tree (Data X S B)
       pub made : Made beside tree.nodes.live tree.root (plug k subtree)
@@ -39,7 +39,7 @@ module _ {W X S B K V : Type 0} (w : Ghosts W X S B K) (rewritten : V → X → 
   CanRewriteAt tree v at acc n =
       (beside : Tree (Data X S B)) × ((t : Tree (Data X S B)) × ((k : Hole (Data X S B)) × CanRewrite beside tree v at acc n k t))
 
-  -- whatever such a subtree it was, its items are rewritten, and all else is as it was
+  -- the items of any such subtree are rewritten; all else is unchanged
   unfoldable pub RewritesAt : Links (Data X S B) → V → Links (Data X S B) → V → Option ℕ → B → ℕ → S → Type 0
   RewritesAt old v new after at acc n sum =
       (beside t : Tree (Data X S B)) (k : Hole (Data X S B)) → CanRewrite beside old v at acc n k t → Rewrote beside new v after acc k t sum

@@ -1,4 +1,4 @@
--- A tree in memory that is red-black but for a red node whose parent may be red too.
+-- A tree in memory that is red-black except for one red node whose parent may be red too.
 use Rattle.std.specs.Prelude.{◌≡◌, ℕ, ◌-◌, ◌≤◌, true, false, List, Option, Some, None}
 use Rattle.std.specs.Ordering.{nat_cmp}
 use Rattle.std.specs.FinMap as map
@@ -15,12 +15,12 @@ use Rattle.rb_arena.specs.declared.links.Links.{Links}
 
 module _ {X S B : Type 0} (w : Weaving X S B) (is_near : B → Type 0) (beside : Tree (Data X S B))
     (m : map.FinMap nat_cmp (Slot (Data X S B))) (root : Option ℕ) (es : List (ℕ × X)) where
-  -- a red-black tree with the items es lies in the memory
+  -- a red-black tree with the items es is in the memory
   abbrev pub Mended : Type 0
   Mended = (t : Tree (Data X S B)) × Made beside m root t × Lists w is_near t es × Balanced t
 
-  -- a tree with the items es lies in the memory, red-black but that the node of that name is red in a hole that may want a black one,
-  -- with no more than n nodes above
+  -- A tree with the items es is in the memory. It is red-black except that the node i is red in a hole that may require a black one. At
+  -- most n nodes are above it.
   pub record Rising (i n : ℕ) : Type 0 where
     pub hole : Hole (Data X S B)
     pub subtree : Tree (Data X S B)
@@ -32,26 +32,26 @@ module _ {X S B : Type 0} (w : Weaving X S B) (is_near : B → Type 0) (beside :
     pub fits : Fits false black hole
     pub few : depth hole ≤ n
 
-  -- one or the other, by whether there is such a node
+  -- a tree with such a node, or a red-black tree if no node is named
   abbrev pub Risen : Option ℕ → ℕ → Type 0
   Risen None n = Mended
   Risen (Some i) n = Rising i n
 
 module _ {W X S B K : Type 0} (w : Ghosts W X S B K) where
-  -- a red-black tree with the items es, all of whose shifts lie within that reach, and another beside it
+  -- a red-black tree with the items es and all shifts within the reach is in the memory, beside another tree
   abbrev pub MendedBeside : B → Tree (Data X S B) → Links (Data X S B) → List (ℕ × X) → Type 0
   MendedBeside reach beside tree es = Mended w.weaving (w.within reach) beside tree.nodes.live tree.root es
 
   module _ (old new : Links (Data X S B)) (id : ℕ) where
-    -- whatever the tree was in which the node rose, it lists the same, and the next one rises below fewer, or none does,
-    -- as after the topmost
+    -- Any tree in which the node `id` was such a red node lists the same items. The node `next` is such a red node now, with at least one
+    -- node fewer above it; or there is none, which is so whenever `id` was the root.
     abbrev pub RisesTo : Option ℕ → Type 0
     RisesTo next =
         (reach : B) (beside : Tree (Data X S B)) (es : List (ℕ × X)) (n : ℕ)
         → Rising w.weaving (w.within reach) beside old.nodes.live old.root es id n → Valued w.weaving w.is_item w.is_value es
         → Risen w.weaving (w.within reach) beside new.nodes.live new.root es next (n - 1) × (n ≡ 0 → next ≡ None)
 
-    -- whatever the tree was in which the node rose, below no more than n others, it is red-black and lists the same
+    -- any tree in which the node was such a red node, with at most n nodes above it, is red-black now and lists the same items
     unfoldable pub MendsFrom : ℕ → Type 0
     MendsFrom n =
         (reach : B) (beside : Tree (Data X S B)) (es : List (ℕ × X))
@@ -59,26 +59,26 @@ module _ {W X S B K : Type 0} (w : Ghosts W X S B K) where
         → MendedBeside reach beside new es
 
   module _ (old new : Links (Data X S B)) (at : Option ℕ) where
-    -- the same where the node may be none, in a tree that is red-black then
+    -- the same; for None the tree was red-black already
     abbrev pub MendsUp : ℕ → Type 0
     MendsUp n =
         (reach : B) (beside : Tree (Data X S B)) (es : List (ℕ × X))
         → Risen w.weaving (w.within reach) beside old.nodes.live old.root es at n → Valued w.weaving w.is_item w.is_value es
         → MendedBeside reach beside new es
 
-  -- the node of that name rises in some tree of values
+  -- the node is such a red node in some tree of values
   abbrev pub IsRising : Links (Data X S B) → ℕ → Type 0
   IsRising tree id =
       (reach : B) × ((beside : Tree (Data X S B)) × ((es : List (ℕ × X)) × ((n : ℕ)
       × Rising w.weaving (w.within reach) beside tree.nodes.live tree.root es id n × Valued w.weaving w.is_item w.is_value es)))
 
-  -- it does so below no more than n others
+  -- the same with at most n nodes above it
   unfoldable pub IsRisingFrom : Links (Data X S B) → ℕ → ℕ → Type 0
   IsRisingFrom tree id n =
       (reach : B) × ((beside : Tree (Data X S B)) × ((es : List (ℕ × X))
       × Rising w.weaving (w.within reach) beside tree.nodes.live tree.root es id n × Valued w.weaving w.is_item w.is_value es))
 
-  -- the same where the node may be none, in a tree that is red-black then
+  -- the same; for None the tree is red-black
   abbrev pub IsRisen : Links (Data X S B) → Option ℕ → ℕ → Type 0
   IsRisen tree at n =
       (reach : B) × ((beside : Tree (Data X S B)) × ((es : List (ℕ × X))

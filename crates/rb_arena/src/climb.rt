@@ -1,4 +1,4 @@
-//! Walks from a node to the top.
+//! Walks from a node up to the root.
 ghost use Rattle.rb_arena.specs.Nodes.{KeepsCount};
 ghost use Rattle.rb_arena.specs.Relative.{CanRenewNode, IsSlackFrom, Renews, RenewsFrom};
 ghost use Rattle.rb_arena.specs.Stopping.{CanSet, Sets};
@@ -8,10 +8,10 @@ use crate::sums::{summed, whole};
 use raw_arena::NodeId;
 use rb_rules::{Data, Weave};
 
-/// The most nodes on a path, by the balance of the tree.
+/// Upper bound for the number of nodes on a path. It follows from the balance of the tree.
 pub(crate) const LONGEST: u32 = 128;
 
-/// Renews the sums of one node from those of its subtrees.
+/// Recomputes the sums of one node from those of its subtrees.
 #[tactic(auto, using(crate::proofs::Renewing::renewing), unfolding(crate::specs::Nodes::Rewrites, crate::specs::Relative::CanRenewNode))]
 fn renew<W: Weave>(tree: &mut Links<Data<W::Item, W::Sum, W::By>>, id: NodeId)
     requires { CanRenewNode W.Weave tree.old id }
@@ -25,7 +25,7 @@ fn renew<W: Weave>(tree: &mut Links<Data<W::Item, W::Sum, W::By>>, id: NodeId)
     rewrite(tree, id, slot.red, datum);
 }
 
-/// Renews the sums of the nodes from one up.
+/// Recomputes the sums of the node `from` and of its ancestors.
 pub(crate) fn renew_up<W: Weave>(
     tree: &mut Links<Data<W::Item, W::Sum, W::By>>,
     from: Option<NodeId>,
@@ -44,7 +44,8 @@ pub(crate) fn renew_up<W: Weave>(
     }
 }
 
-/// Puts another item at a node, and renews its sums, and those of the nodes above it unless its own is as it was.
+/// Replaces the item of a node and recomputes the node's sums. The sums of its ancestors are recomputed too, unless `same` finds the
+/// node's sum unchanged.
 #[tactic(auto, using(crate::proofs::Stopping::setting_item), unfolding(crate::specs::Stopping::CanSet))]
 pub(crate) fn set_item<W: Weave>(
     tree: &mut Links<Data<W::Item, W::Sum, W::By>>,

@@ -1,4 +1,4 @@
-//! After a removal: at one place the tree may have one black node too few on each path.
+//! Rebalancing after a removal: the paths through one place may have one black node too few.
 ghost use Rattle.rb_arena.specs.Nodes.{KeepsCount};
 ghost use Rattle.rb_arena.specs.Closing.{IsShort, IsClosing, ClosesTo, ClosesFrom};
 
@@ -8,11 +8,11 @@ use crate::sums::turn_node;
 use raw_arena::NodeId;
 use rb_rules::{Data, Side, Weave};
 
-/// One step at most for each node on a path, and one more below a red node.
+/// Upper bound for the number of steps: one for each node on a path, and one more below a red node.
 const MOST_STEPS: u32 = 129;
 
-/// Closes the gap on that side of a node, by the node's child on the other side, or moves it up: `None` where nothing is
-/// left to close, and else the place of the gap now.
+/// Closes the gap on the side `side` of `parent`, by way of its child on the other side, or moves the gap. Returns the new place of the
+/// gap, or `None` if it is closed.
 fn step<W: Weave>(
     tree: &mut Links<Data<W::Item, W::Sum, W::By>>,
     parent: NodeId,
@@ -49,7 +49,7 @@ fn step<W: Weave>(
     place(tree, parent)
 }
 
-/// Makes the tree red-black again after a black node has gone.
+/// Makes the tree red-black again after the removal of a black node.
 #[tactic(auto, unfolding(crate::specs::Closing::IsClosing, crate::specs::Closing::ClosesFrom))]
 pub(crate) fn close<W: Weave>(tree: &mut Links<Data<W::Item, W::Sum, W::By>>, from: Place)
     requires { IsClosing W.Weave tree.old from 129 }

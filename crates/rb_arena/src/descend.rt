@@ -1,4 +1,4 @@
-//! A search from the top down, or from a node on.
+//! Searches from the root down, or from a node on.
 ghost use Rattle.std.specs.Prelude.{◌≡◌, ◌-◌, IfSome};
 ghost use Rattle.raw_arena.specs.Arena.{IsLive};
 ghost use Rattle.rb_arena.specs.Relative.{RelativeItem, RelativeSum, RelativeBy, before_node};
@@ -14,8 +14,8 @@ use raw_arena::NodeId;
 use rb_rules::{Data, Side, Slot, Turn, Weave};
 use steps::Steps;
 
-/// Where a search stands: at a subtree, with the shift of the path to it, the sum of the items
-/// before it, and the node that was asked last.
+/// The position of a search: a subtree, the sum of the shifts on the path to it, the sum of the items before it, and the last node
+/// compared, with its item and the sum before it.
 #[derive(Clone, Copy)]
 pub struct Standing<X, S, B> {
     pub at: Option<NodeId>,
@@ -24,13 +24,13 @@ pub struct Standing<X, S, B> {
     pub last: Option<(NodeId, X, S)>,
 }
 
-/// How a search goes on from the nodes above: it has found its item, or goes down.
+/// The state of a search after its climb: it has found its item, or goes on down from a position.
 pub enum Next<X, S, B> {
     Stop((NodeId, X, S)),
     Down(Standing<X, S, B>),
 }
 
-/// A node's item, below a path with that shift.
+/// Returns a node's item with the shift `by` of its path applied.
 fn item_below<W: Weave>(by: W::By, datum: &Data<W::Item, W::Sum, W::By>) -> W::Item
     requires { RelativeItem W.Weave (W.weaving.shift by datum.now.item) }
     ensures { result ≡ W.weaving.shift by datum.now.item }
@@ -38,7 +38,8 @@ fn item_below<W: Weave>(by: W::By, datum: &Data<W::Item, W::Sum, W::By>) -> W::I
     W::shift(by, datum.item)
 }
 
-/// A node's item and the sum of the items before it, by what the path to the node came to.
+/// Returns a node's item with the shift of its path applied, and the sum of the items before the node. `by` is the sum of the shifts on
+/// the path to the node, `before` the sum of the items before its subtree.
 fn at_node<W: Weave>(
     by: W::By,
     before: W::Sum,
@@ -55,7 +56,8 @@ fn at_node<W: Weave>(
     (item, W::join(before, left))
 }
 
-/// The subtree on the right of a node that was asked, below the shift of the node's path.
+/// Returns the position of the search at the right subtree of a node that was compared. `by` is the sum of the shifts on the path to that
+/// node.
 fn right_of<W: Weave>(
     by: W::By,
     slot: &Slot<Data<W::Item, W::Sum, W::By>>,
@@ -73,8 +75,8 @@ fn right_of<W: Weave>(
     }
 }
 
-/// The item at which the search ends that goes down from there, with its name and the sum of the
-/// items before it. Each node on the way counts as a step.
+/// Runs a search down from the position `from`. Returns the item at which it ends, with its name and the sum of the items before it. Each
+/// node on the way counts as a step.
 pub(crate) fn go_down<W: Weave, L>(
     tree: &Links<Data<W::Item, W::Sum, W::By>>,
     from: Standing<W::Item, W::Sum, W::By>,
@@ -105,7 +107,7 @@ pub(crate) fn go_down<W: Weave, L>(
     standing.last
 }
 
-/// The sum of the items before a subtree and in it.
+/// Returns the sum of the items before a subtree and in it.
 #[tactic(auto, unfolding(crate::specs::Nodes::LivesIf))]
 fn through<W: Weave>(
     tree: &Links<Data<W::Item, W::Sum, W::By>>,
@@ -120,9 +122,9 @@ fn through<W: Weave>(
     W::join(standing.before, inside)
 }
 
-/// Climbs from a node, past the nodes from which the search among the items after it goes right,
-/// and tells where it goes on. Each node on the way counts once for the shift of its path, and once
-/// when it is passed.
+/// Climbs from the node `id` in a search among the items after it, past the nodes from which the search goes right, and returns where it
+/// goes on. Each ancestor of `id` counts as a step for the shift of the path; `id` and each ancestor that the climb visits count as
+/// another.
 pub(crate) fn climb<W: Weave, L>(
     tree: &Links<Data<W::Item, W::Sum, W::By>>,
     id: NodeId,

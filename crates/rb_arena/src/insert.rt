@@ -1,4 +1,4 @@
-//! A new item at a place of the tree.
+//! Insertion of an item at a place of the tree.
 ghost use Rattle.std.specs.Prelude.{◌≡◌, ◌-◌, ◌<◌};
 ghost use Rattle.rb_arena.specs.Nodes.{GainsOne, KeepsCount, Lives};
 ghost use Rattle.rb_arena.specs.Placing as placing;
@@ -16,7 +16,7 @@ use raw_arena::NodeId;
 use rb_rules::{Data, Packed, Side, Slot, Weave};
 use steps::Steps;
 
-/// The node above a place.
+/// Returns the node above a place; None for the place of the root.
 pub(crate) fn parent_at(at: &Place) -> Option<NodeId>
     ensures { result ≡ above_place at.now }
 {
@@ -26,7 +26,8 @@ pub(crate) fn parent_at(at: &Place) -> Option<NodeId>
     }
 }
 
-/// One node's part in the shift of a path that goes to that side of it.
+/// Extends the lower part of a path, whose shifts add up to `by`, by the node above it: `delta` is added if the path goes to the right
+/// side of that node.
 #[tactic(auto, unfolding(crate::specs::Placing::CanPass))]
 fn pass<W: Weave>(side: Side, delta: W::By, by: W::By) -> W::By
     requires { CanPass W.Weave side delta by }
@@ -38,7 +39,7 @@ fn pass<W: Weave>(side: Side, delta: W::By, by: W::By) -> W::By
     }
 }
 
-/// What the shifts on the path to a place come to. Each node on the path counts as a step.
+/// Returns the sum of the shifts on the path to a place. Each node on the path counts as a step.
 #[tactic(auto, using(crate::proofs::Paths::path_shifts))]
 pub(crate) fn shift_to<W: Weave, L>(
     tree: &Links<Data<W::Item, W::Sum, W::By>>,
@@ -65,7 +66,7 @@ pub(crate) fn shift_to<W: Weave, L>(
     by
 }
 
-/// The same, and counts no step.
+/// Returns the sum of the shifts on the path to a place, without counting steps. Reads no node if the weave has only one shift.
 #[tactic(auto, using(crate::proofs::Paths::only_shift))]
 pub(crate) fn path_shift<W: Weave>(tree: &Links<Data<W::Item, W::Sum, W::By>>, from: Place) -> W::By
     requires { IsWovenPlace W.Weave tree.now from }
@@ -86,7 +87,7 @@ pub(crate) fn copy_of(at: &Place) -> Place
     }
 }
 
-/// What a node keeps of an item, below a path with that shift.
+/// Returns an item in the form that a node keeps, relative to the shift `by` of its path.
 #[tactic(auto, unfolding(crate::specs::Placing::CanKeep))]
 pub(crate) fn kept_below<W: Weave>(by: W::By, item: W::Item) -> W::Item
     requires { CanKeep W.Weave by item }
@@ -95,7 +96,7 @@ pub(crate) fn kept_below<W: Weave>(by: W::By, item: W::Item) -> W::Item
     W::shift(W::minus(W::still(), by), item)
 }
 
-/// What a leaf keeps of an item, below a path with that shift.
+/// Returns the data of a leaf with an item, relative to the shift `by` of its path.
 #[tactic(auto, unfolding(crate::specs::Placing::CanKeepAlone, crate::specs::Relative::IsSummed))]
 fn leaf_below<W: Weave>(by: W::By, item: W::Item) -> Data<W::Item, W::Sum, W::By>
     requires { CanKeepAlone W.Weave by item }
@@ -104,7 +105,7 @@ fn leaf_below<W: Weave>(by: W::By, item: W::Item) -> Data<W::Item, W::Sum, W::By
     summed::<W>(kept_below::<W>(by, item), W::still(), W::none(), W::none())
 }
 
-/// A leaf for an empty place.
+/// Makes a red leaf with an item for an empty place.
 #[tactic(auto, using(crate::proofs::Inserting::making_leaf))]
 fn leaf_at<W: Weave>(
     tree: &Links<Data<W::Item, W::Sum, W::By>>,
@@ -120,7 +121,7 @@ fn leaf_at<W: Weave>(
     Slot::sided(Side::Left, parent_at(at), None, None, true, datum)
 }
 
-/// Hangs a leaf at an empty place.
+/// Attaches a leaf at an empty place, recomputes the sums above it and rebalances the tree.
 #[tactic(auto, using(crate::proofs::Inserting::hung_leaf))]
 fn hang_leaf<W: Weave>(tree: &mut Links<Data<W::Item, W::Sum, W::By>>, at: Place, id: NodeId)
     requires { TakesLeaf W.Weave tree.old at id }
@@ -133,7 +134,7 @@ fn hang_leaf<W: Weave>(tree: &mut Links<Data<W::Item, W::Sum, W::By>>, at: Place
     mend::<W>(tree, id);
 }
 
-/// Puts an item at an empty place.
+/// Inserts an item at an empty place and returns its name.
 #[tactic(auto, using(crate::proofs::Inserting::inserted))]
 pub(crate) fn insert_at<W: Weave>(
     tree: &mut Links<Data<W::Item, W::Sum, W::By>>,
@@ -151,7 +152,7 @@ pub(crate) fn insert_at<W: Weave>(
     id
 }
 
-/// Puts an item at an empty place, at a node that stands in no tree.
+/// Inserts an item at an empty place, in the node `id`, which is in no tree.
 #[tactic(auto, using(crate::proofs::Inserting::landed), unfolding(crate::specs::Nodes::Lives))]
 pub(crate) fn land_at<W: Weave>(
     tree: &mut Links<Data<W::Item, W::Sum, W::By>>,

@@ -1,4 +1,4 @@
-//! A node leaves the tree.
+//! Removal of a node from the tree.
 ghost use Rattle.std.specs.Prelude.{◌≡◌, None};
 ghost use Rattle.rb_rules.specs.Memory.{hung, root_hung, place_of, AtSpot};
 ghost use Rattle.rb_arena.specs.Nodes.{KeepsCount, Lives, LosesOne};
@@ -18,13 +18,13 @@ use crate::walk::end_place;
 use raw_arena::NodeId;
 use rb_rules::{Data, Side, Weave};
 
-/// What a node leaves where it goes from a tree: an empty place, and whether a red node is missing there.
+/// The place left empty by the removal of a node, and whether the leaf there was red.
 struct Vacancy {
     at: Place,
     red: bool,
 }
 
-/// Renews the sums above an empty place, and closes the gap that a black leaf has left there.
+/// Recomputes the sums above an empty place, and rebalances the tree if the removed leaf was black.
 #[tactic(auto, using(crate::proofs::Emptying::settling))]
 fn settle<W: Weave>(tree: &mut Links<Data<W::Item, W::Sum, W::By>>, at: Place, red: bool)
     requires { IsEmptied W.Weave tree.old at red }
@@ -38,7 +38,7 @@ fn settle<W: Weave>(tree: &mut Links<Data<W::Item, W::Sum, W::By>>, at: Place, r
     close::<W>(tree, at);
 }
 
-/// A leaf leaves the tree, and keeps its slot. The tree's sums may be wrong.
+/// Detaches a leaf from the tree. Its slot stays live. The sums of the tree may be wrong afterwards.
 #[tactic(auto, using(crate::proofs::Leaving::leaf_unlinks))]
 fn unlink_leaf<W: Weave>(tree: &mut Links<Data<W::Item, W::Sum, W::By>>, id: NodeId) -> Vacancy
     requires stands { IsThere tree.old id }
@@ -57,7 +57,7 @@ fn unlink_leaf<W: Weave>(tree: &mut Links<Data<W::Item, W::Sum, W::By>>, id: Nod
     Vacancy { at: gap, red }
 }
 
-/// Makes a leaf of a node with one child at most.
+/// Rotates at a node with at most one child, so that the node becomes a leaf.
 #[tactic(auto, using(crate::proofs::Leaving::to_leaf))]
 fn to_leaf<W: Weave>(tree: &mut Links<Data<W::Item, W::Sum, W::By>>, id: NodeId)
     requires child { OneChild tree.old.nodes.live id }
@@ -75,7 +75,7 @@ fn to_leaf<W: Weave>(tree: &mut Links<Data<W::Item, W::Sum, W::By>>, id: NodeId)
     }
 }
 
-/// The item of a node, with the shifts of its path.
+/// Returns the item of a node, with the shifts of its path applied.
 #[tactic(auto, using(crate::proofs::Inserting::valued_place), unfolding(crate::specs::Placing::IsShiftTo, crate::specs::Leaving::IsShown))]
 pub(crate) fn item_at<W: Weave>(tree: &Links<Data<W::Item, W::Sum, W::By>>, id: NodeId) -> W::Item
     requires { StandsValued W.Weave tree.now id }
@@ -89,7 +89,7 @@ pub(crate) fn item_at<W: Weave>(tree: &Links<Data<W::Item, W::Sum, W::By>>, id: 
     item
 }
 
-/// What a node keeps of an item that is to stand there.
+/// Returns an item in the form that the node `id` keeps, relative to the shifts of its path.
 #[tactic(auto, using(crate::proofs::Inserting::keeping))]
 pub(crate) fn item_for<W: Weave>(
     tree: &Links<Data<W::Item, W::Sum, W::By>>,
@@ -106,7 +106,7 @@ pub(crate) fn item_for<W: Weave>(
     kept_below::<W>(by, item)
 }
 
-/// Takes a leaf off that stands right after a node, below it, and tells from which place.
+/// Detaches the leaf `heir`, whose item is the next one after that of `id`, and returns its place.
 #[tactic(auto, using(crate::proofs::Heirs::cutting))]
 fn cut<W: Weave>(tree: &mut Links<Data<W::Item, W::Sum, W::By>>, id: NodeId, heir: NodeId) -> Place
     requires leaf { NoChild tree.old.nodes.live heir }
@@ -125,7 +125,7 @@ fn cut<W: Weave>(tree: &mut Links<Data<W::Item, W::Sum, W::By>>, id: NodeId, hei
     below
 }
 
-/// A leaf takes the place of the node before it, which leaves the tree and keeps its slot.
+/// Detaches the node `id` and puts the leaf `heir`, which is the next node, in its place. The slot of `id` stays live.
 #[tactic(auto, using(crate::proofs::Heirs::inheriting))]
 fn inherit<W: Weave>(
     tree: &mut Links<Data<W::Item, W::Sum, W::By>>,
@@ -158,7 +158,7 @@ fn inherit<W: Weave>(
     Vacancy { at, red }
 }
 
-/// A node leaves the tree, whatever stands below it, and keeps its slot.
+/// Detaches a node with any number of children from the tree. Its slot stays live.
 #[tactic(auto, using(crate::proofs::Heirs::unlinking))]
 fn unlink<W: Weave>(tree: &mut Links<Data<W::Item, W::Sum, W::By>>, id: NodeId) -> Vacancy
     requires stands { IsThere tree.old id }
@@ -180,7 +180,7 @@ fn unlink<W: Weave>(tree: &mut Links<Data<W::Item, W::Sum, W::By>>, id: NodeId) 
     inherit::<W>(tree, id, heir)
 }
 
-/// A node leaves the tree, and its slot goes back to the arena.
+/// Removes a node from the tree and returns its slot to the arena.
 #[tactic(auto, using(crate::proofs::TakingOut::taking_out))]
 pub(crate) fn leave<W: Weave>(tree: &mut Links<Data<W::Item, W::Sum, W::By>>, id: NodeId)
     requires { StoresItem W.Weave tree.old id }
@@ -193,7 +193,7 @@ pub(crate) fn leave<W: Weave>(tree: &mut Links<Data<W::Item, W::Sum, W::By>>, id
     settle::<W>(tree, at, red);
 }
 
-/// A node leaves the tree, and comes before the loose ones.
+/// Moves a node from the tree to the front of the chain of loose nodes.
 #[tactic(auto, using(crate::proofs::TakingOut::loosening))]
 pub(crate) fn loosen<W: Weave>(
     tree: &mut Links<Data<W::Item, W::Sum, W::By>>,

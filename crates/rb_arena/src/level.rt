@@ -1,4 +1,4 @@
-//! The shifts in a tree are applied, and none is left in it.
+//! Application of all pending shifts of a tree.
 ghost use Rattle.std.specs.Prelude.{◌≡◌};
 ghost use Rattle.rb_rules.specs.Shifts as shifts;
 ghost use Rattle.rb_arena.specs.Nodes.{KeepsCount};
@@ -9,7 +9,7 @@ use crate::links::{Links, node_of, rewrite};
 use raw_arena::NodeId;
 use rb_rules::{Data, Weave};
 
-/// A node's data with the shift of its path applied, and with none for its right subtree.
+/// Returns a node's data with the shift `by` of its path applied, and without a shift for its right subtree.
 fn level_datum<W: Weave>(
     by: W::By,
     datum: &Data<W::Item, W::Sum, W::By>,
@@ -27,7 +27,8 @@ fn level_datum<W: Weave>(
     }
 }
 
-/// Levels a subtree below a path whose shifts come to `by`. It has no more than so many levels.
+/// Applies the pending shifts in the subtree `at`; `by` is the sum of the shifts on the path above it, `levels` an upper bound for its
+/// height.
 #[tactic(auto, unfolding(crate::specs::Shifting::CanLevelAt, crate::specs::Shifting::Levels))]
 pub(crate) fn level<W: Weave>(
     tree: &mut Links<Data<W::Item, W::Sum, W::By>>,

@@ -1,4 +1,4 @@
-//! A red-black tree over any weave.
+//! A red-black tree with sums and shifts, generic in the `Weave` that defines them.
 #![tactic(auto)]
 
 mod climb;

@@ -1,4 +1,4 @@
-//! A tree's nodes and their links, whatever data the nodes have.
+//! Nodes and links of a tree, for any node data.
 ghost use Rattle.std.specs.Prelude.{◌≡◌, ◌+◌, ◌<◌, Some, None, IfSome};
 ghost use Rattle.std.specs.FinMap as map;
 ghost use Rattle.raw_arena.specs.Arena.{node, IsLive};
@@ -12,17 +12,18 @@ use raw_arena::{Arena, NodeId};
 use rb_rules::{Packed, Side, Slot};
 use steps::Steps;
 
-/// A node's place: the node above it, and the side of that.
+/// The place of a node: the node above it and the side of that node; None for the root.
 pub(crate) type Place = Option<(NodeId, Side)>;
 
-/// The nodes of a tree, and the topmost.
+/// The nodes of a tree, and its root.
 #[derive(Drop)]
 pub struct Links<D: Copy> {
     pub(crate) nodes: Arena<Packed<D>>,
     pub(crate) root: Option<NodeId>,
 }
 
-/// Reads a node. It counts as a step.
+/// Reads a node and counts one step.
+#[inline(always)]
 pub(crate) fn visit<D: Copy, L>(
     nodes: &Arena<Packed<D>>,
     id: NodeId,
@@ -35,8 +36,9 @@ pub(crate) fn visit<D: Copy, L>(
     nodes.visit(id, steps).slot()
 }
 
-/// Reads a node, and counts no step.
+/// Reads a node without counting a step.
 #[tactic(auto, unfolding(crate::specs::Nodes::Lives))]
+#[inline(always)]
 pub(crate) fn read<D: Copy>(nodes: &Arena<Packed<D>>, id: NodeId) -> Slot<D>
     requires { Lives nodes.now id }
     ensures { node nodes.now id ≡ Some result }
@@ -44,7 +46,7 @@ pub(crate) fn read<D: Copy>(nodes: &Arena<Packed<D>>, id: NodeId) -> Slot<D>
     visit(nodes, id, &mut Steps::new())
 }
 
-/// Writes a node, and counts no step.
+/// Writes a node without counting a step.
 #[tactic(auto, using(crate::proofs::Slots::writing), unfolding(crate::specs::Nodes::Lives))]
 pub(crate) fn write<D: Copy>(nodes: &mut Arena<Packed<D>>, id: NodeId, slot: Slot<D>)
     requires { Lives nodes.old id }
@@ -55,8 +57,9 @@ pub(crate) fn write<D: Copy>(nodes: &mut Arena<Packed<D>>, id: NodeId, slot: Slo
     *nodes.visit_mut(id, &mut Steps::new()) = Packed::of(&slot);
 }
 
-/// Reads a node of the tree.
+/// Reads a node that is in the tree.
 #[tactic(auto, using(crate::proofs::Slots::reading))]
+#[inline(always)]
 pub(crate) fn node_of<D: Copy>(tree: &Links<D>, id: NodeId) -> Slot<D>
     requires { Stands tree.now.nodes.live tree.now.root id }
     ensures value { node tree.now.nodes id ≡ Some result }
@@ -69,7 +72,7 @@ pub(crate) fn node_of<D: Copy>(tree: &Links<D>, id: NodeId) -> Slot<D>
     read(&tree.nodes, id)
 }
 
-/// The place of a node of the tree.
+/// Returns the place of a node that is in the tree.
 #[tactic(auto, using(crate::proofs::Slots::places), unfolding(crate::specs::Nodes::Lives, crate::specs::Nodes::LivesIf))]
 pub(crate) fn place<D: Copy>(tree: &Links<D>, id: NodeId) -> Place
     requires { Stands tree.now.nodes.live tree.now.root id }
@@ -80,7 +83,7 @@ pub(crate) fn place<D: Copy>(tree: &Links<D>, id: NodeId) -> Place
     Some((above, side))
 }
 
-/// Gives a node, if there is one, another parent.
+/// Sets the parent of a node. Does nothing if `id` is None.
 #[tactic(auto, using(crate::proofs::Slots::staying), unfolding(crate::specs::Nodes::Lives, crate::specs::Nodes::LivesIf))]
 fn adopt<D: Copy>(nodes: &mut Arena<Packed<D>>, id: Option<NodeId>, parent: Option<NodeId>)
     requires { LivesIf nodes.old id }
@@ -95,7 +98,7 @@ fn adopt<D: Copy>(nodes: &mut Arena<Packed<D>>, id: Option<NodeId>, parent: Opti
     }
 }
 
-/// Hangs another node, or none, at a place.
+/// Sets the link at a place to `child`; at the place None it sets the root. The parent link of `child` is not written.
 #[tactic(auto, using(crate::proofs::Slots::staying), unfolding(crate::specs::Nodes::Lives, crate::specs::Nodes::LivesAt))]
 pub(crate) fn hang<D: Copy>(tree: &mut Links<D>, place: Place, child: Option<NodeId>)
     requires { LivesAt tree.old.nodes place }
@@ -113,7 +116,7 @@ pub(crate) fn hang<D: Copy>(tree: &mut Links<D>, place: Place, child: Option<Nod
     }
 }
 
-/// Writes a node's colour and data.
+/// Sets a node's colour and data.
 #[tactic(auto, using(crate::proofs::Slots::rewriting))]
 pub(crate) fn rewrite<D: Copy>(tree: &mut Links<D>, id: NodeId, red: bool, datum: D)
     requires { Stands tree.old.nodes.live tree.old.root id }
@@ -126,7 +129,7 @@ pub(crate) fn rewrite<D: Copy>(tree: &mut Links<D>, id: NodeId, red: bool, datum
     write(&mut tree.nodes, id, slot);
 }
 
-/// Turns a node: its child on that side comes to stand above it. Each keeps the colour of its place.
+/// Rotates at a node: its child on the side `side` comes above it. The two exchange colours, so each place keeps its colour.
 #[tactic(auto, using(crate::proofs::Slots::turning), unfolding(crate::specs::Nodes::HasChildAt))]
 pub(crate) fn turn<D: Copy>(tree: &mut Links<D>, id: NodeId, side: Side, low: D, high: D)
     requires { HasChildAt tree.old id side }
@@ -149,7 +152,7 @@ pub(crate) fn turn<D: Copy>(tree: &mut Links<D>, id: NodeId, side: Side, low: D,
     write(&mut tree.nodes, child, up);
 }
 
-/// Puts another node in a node's place, with its links and its colour.
+/// Puts the node `heir` in the place of `id`, with the links and the colour of `id`.
 #[tactic(auto, using(crate::proofs::Slots::replacing))]
 pub(crate) fn replace<D: Copy>(tree: &mut Links<D>, id: NodeId, heir: NodeId, datum: D)
     requires stands { Stands tree.old.nodes.live tree.old.root id }
@@ -167,7 +170,7 @@ pub(crate) fn replace<D: Copy>(tree: &mut Links<D>, id: NodeId, heir: NodeId, da
     write(&mut tree.nodes, heir, slot);
 }
 
-/// Puts a node that stands in no tree before a chain. Each node of a chain links to the next by its right link.
+/// Puts a node that is in no tree in front of a chain. Each node of a chain links to the next by its right link.
 #[tactic(auto, using(crate::proofs::Slots::living))]
 pub(crate) fn string<D: Copy>(
     nodes: &mut Arena<Packed<D>>,
@@ -186,7 +189,7 @@ pub(crate) fn string<D: Copy>(
     write(nodes, id, slot);
 }
 
-/// Takes the first node from a chain, and tells which is the first now.
+/// Detaches the first node of a chain and returns the next, which is first now.
 #[tactic(auto, unfolding(crate::specs::Nodes::HeadsChain, crate::specs::Nodes::LosesFirst, crate::specs::Nodes::Lives, crate::specs::Nodes::LivesIf))]
 pub(crate) fn unstring<D: Copy>(nodes: &mut Arena<Packed<D>>, id: NodeId) -> Option<NodeId>
     requires { HeadsChain nodes.old id }

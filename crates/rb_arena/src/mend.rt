@@ -1,4 +1,4 @@
-//! After an insertion: the new node is red, and its parent may be red too.
+//! Rebalancing after an insertion: the new node is red, and its parent may be red too.
 ghost use Rattle.std.specs.Prelude.{◌≡◌};
 ghost use Rattle.rb_rules.specs.Tree.{fork};
 ghost use Rattle.rb_rules.specs.Memory.{AtSpot, Stands};
@@ -11,25 +11,25 @@ use crate::sums::turn_node;
 use raw_arena::{Arena, NodeId};
 use rb_rules::{Data, Packed, Side, Weave};
 
-/// One step at most for each node on a path, and one at the topmost.
+/// Upper bound for the number of steps: one for each node on a path, and one at the root.
 const MOST_STEPS: u32 = 129;
 
-/// How a red node stands to the nodes above it.
+/// The position of a red node relative to its parent, grandparent and uncle.
 #[derive(Clone, Copy)]
 pub enum Case {
-    /// It may be red: there is no parent, or a black one.
+    /// The node may be red: it has no parent, or a black one.
     Settled,
-    /// Its parent is red and the topmost node.
+    /// Its parent is red and the root.
     RedRoot(NodeId),
-    /// Its parent and its parent's sibling are red: parent, sibling, grandparent.
+    /// Its parent and its uncle are red: parent, uncle, grandparent.
     RedUncle(NodeId, NodeId, NodeId),
-    /// Its parent alone is red, and both are on the same side: grandparent.
+    /// Its parent is red, its uncle is not, and both are on the same side: grandparent, side.
     Outer(NodeId, Side),
-    /// Its parent alone is red, and it is on the other side of it: parent, its side of that, grandparent.
+    /// Its parent is red, its uncle is not, and they are on different sides: parent, side of the node, grandparent.
     Inner(NodeId, Side, NodeId),
 }
 
-/// Writes a node's colour.
+/// Sets a node's colour.
 #[tactic(auto, unfolding(crate::specs::Nodes::Rewrites))]
 pub(crate) fn paint<D: Copy>(tree: &mut Links<D>, id: NodeId, red: bool)
     requires { Stands tree.old.nodes.live tree.old.root id }
@@ -40,7 +40,7 @@ pub(crate) fn paint<D: Copy>(tree: &mut Links<D>, id: NodeId, red: bool)
     rewrite(tree, id, red, datum);
 }
 
-/// The child on that side, if it is red.
+/// Returns the child on the side `side` if it is red.
 #[tactic(auto, unfolding(crate::specs::Nodes::Lives))]
 pub(crate) fn red_child<D: Copy>(nodes: &Arena<Packed<D>>, id: NodeId, side: Side) -> Option<NodeId>
     requires { HasChild nodes.now.live id side }
@@ -54,7 +54,7 @@ pub(crate) fn red_child<D: Copy>(nodes: &Arena<Packed<D>>, id: NodeId, side: Sid
     }
 }
 
-/// The case of a red node with a red parent and no red uncle.
+/// Returns the case of a red node with a red parent and no red uncle, from the sides of the node and of the parent.
 fn bend(side: Side, parent_side: Side, parent: NodeId, grand: NodeId) -> Case
     ensures { result ≡ bent side parent_side parent grand }
 {
@@ -70,7 +70,7 @@ fn bend(side: Side, parent_side: Side, parent: NodeId, grand: NodeId) -> Case
     }
 }
 
-/// How a node that is red stands to the nodes above it.
+/// Returns the case of a red node.
 fn find_case<D: Copy>(tree: &Links<D>, id: NodeId) -> Case
     requires { Stands tree.now.nodes.live tree.now.root id }
     ensures { AtSpot tree.now.nodes.live tree.now.root id (λ s. result ≡ case_of s.hole) }
@@ -90,7 +90,7 @@ fn find_case<D: Copy>(tree: &Links<D>, id: NodeId) -> Case
     }
 }
 
-/// Mends one step: `None` where nothing is left to mend, and else the node that is red now.
+/// Mends one step. Returns the node that is red now and may have a red parent, or `None` if the tree is red-black.
 fn step<W: Weave>(tree: &mut Links<Data<W::Item, W::Sum, W::By>>, id: NodeId) -> Option<NodeId>
     requires { IsRising W.Weave tree.old id }
     ensures risen { RisesTo W.Weave tree.old tree.new id result }
@@ -120,7 +120,7 @@ fn step<W: Weave>(tree: &mut Links<Data<W::Item, W::Sum, W::By>>, id: NodeId) ->
     }
 }
 
-/// Mends from a red node up, if there is one.
+/// Mends the tree from a red node up. Does nothing if `from` is None.
 fn mend_up<W: Weave>(tree: &mut Links<Data<W::Item, W::Sum, W::By>>, from: Option<NodeId>)
     requires { IsRisen W.Weave tree.old from 128 }
     ensures mended { MendsUp W.Weave tree.old tree.new from 128 }
@@ -135,7 +135,7 @@ fn mend_up<W: Weave>(tree: &mut Links<Data<W::Item, W::Sum, W::By>>, from: Optio
     }
 }
 
-/// Makes the tree red-black again after a red leaf has come.
+/// Makes the tree red-black again after the insertion of a red leaf.
 #[tactic(auto, unfolding(crate::specs::Rising::IsRisingFrom, crate::specs::Rising::MendsFrom))]
 pub(crate) fn mend<W: Weave>(tree: &mut Links<Data<W::Item, W::Sum, W::By>>, id: NodeId)
     requires { IsRisingFrom W.Weave tree.old id 128 }

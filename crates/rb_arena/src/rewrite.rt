@@ -1,4 +1,4 @@
-//! The items of a tree are rewritten where they stand.
+//! Rewriting of the items of a tree in place.
 ghost use Rattle.rb_arena.specs.Nodes.{KeepsCount};
 ghost use Rattle.rb_arena.specs.Rewriting.{CanRewriteAt, RewritesAt};
 
@@ -7,8 +7,8 @@ use crate::sums::summed;
 use raw_arena::NodeId;
 use rb_rules::{Data, Rewriting, Weave};
 
-/// Rewrites the items of a subtree in order, below a path whose shifts come to `by`, and renews its sums. Tells the sum that its topmost
-/// node keeps. It has no more than so many levels. Of a subtree that is skipped only the topmost node is read.
+/// Rewrites the items of the subtree `at` in order and recomputes its sums; `by` is the sum of the shifts on the path above it, `levels`
+/// an upper bound for its height. Returns the sum that its root keeps. Of a subtree that is skipped only the root is read.
 #[tactic(auto, unfolding(crate::specs::Rewriting::CanRewriteAt, crate::specs::Rewriting::RewritesAt))]
 pub(crate) fn rewrite_below<W: Weave, R: Rewriting<W>>(
     tree: &mut Links<Data<W::Item, W::Sum, W::By>>,

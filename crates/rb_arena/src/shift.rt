@@ -1,4 +1,4 @@
-//! The items after a place move.
+//! Moving of all items after a place.
 ghost use Rattle.rb_rules.specs.Shifts.{moved_datum};
 ghost use Rattle.rb_arena.specs.Leaving.{StoresWithin};
 ghost use Rattle.rb_arena.specs.Nodes.{KeepsCount, Rewritten};
@@ -12,7 +12,7 @@ use crate::links::{Links, Place, node_of, place, rewrite};
 use raw_arena::NodeId;
 use rb_rules::{Data, Side, Weave};
 
-/// Moves a node's item and its right subtree, and leaves its sums as they are.
+/// Moves a node's item and its right subtree by `by`, without recomputing its sums.
 #[tactic(auto, unfolding(crate::specs::Shifting::CanMove, crate::specs::Nodes::Rewrites))]
 fn move_node<W: Weave>(tree: &mut Links<Data<W::Item, W::Sum, W::By>>, id: NodeId, by: W::By)
     requires { CanMove W.weaving W.is_near W.is_item tree.old.nodes.live tree.old.root by id }
@@ -29,7 +29,8 @@ fn move_node<W: Weave>(tree: &mut Links<Data<W::Item, W::Sum, W::By>>, id: NodeI
     rewrite(tree, id, slot.red, datum);
 }
 
-/// Moves the items after a place: at each node that the path leaves to the left, its item and its right subtree.
+/// Moves the items after a place, without recomputing sums: at each node that the path leaves to the left, its item and its right
+/// subtree.
 #[tactic(auto, using(crate::proofs::Shifting::shifting_up))]
 fn shift_up<W: Weave>(tree: &mut Links<Data<W::Item, W::Sum, W::By>>, from: Place, by: W::By)
     requires { CanShiftUp W.Weave tree.old from by }
@@ -51,7 +52,7 @@ fn shift_up<W: Weave>(tree: &mut Links<Data<W::Item, W::Sum, W::By>>, from: Plac
     }
 }
 
-/// Moves the items after an empty place, and renews the sums above it.
+/// Moves the items after an empty place and recomputes the sums above it.
 #[tactic(auto, using(crate::proofs::Moving::shifting))]
 pub(crate) fn shift_from<W: Weave>(
     tree: &mut Links<Data<W::Item, W::Sum, W::By>>,
@@ -67,7 +68,8 @@ pub(crate) fn shift_from<W: Weave>(
     renew_up::<W>(tree, parent);
 }
 
-/// A reach for a tree some of whose items move. Where the tree's own would grow too great, the tree is levelled first.
+/// Returns a reach for the tree once some of its items are moved by `by`. If `reach` would grow too great, the shifts in the tree are
+/// applied first. None if `by` is too great for any tree.
 #[tactic(auto, using(crate::proofs::Moving::reaches))]
 pub(crate) fn reach_for<W: Weave>(
     tree: &mut Links<Data<W::Item, W::Sum, W::By>>,

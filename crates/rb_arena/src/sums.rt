@@ -1,4 +1,4 @@
-//! A node's data: its sums, and what a turn makes of them.
+//! Sums in the nodes, and their update in a rotation.
 ghost use Rattle.std.specs.Prelude.{◌≡◌};
 ghost use Rattle.rb_arena.specs.Nodes.{KeepsCount, LivesIf};
 ghost use Rattle.rb_arena.specs.Relative.{CanSumOver, CanTurnOver, CanTurnNode, Turns};
@@ -9,8 +9,9 @@ use crate::links::{Links, node_of, read, turn};
 use raw_arena::{Arena, NodeId};
 use rb_rules::{Data, Packed, Side, Weave};
 
-/// The sum that the topmost node of a subtree keeps.
+/// Returns the sum that the root of a subtree keeps; the empty sum for None.
 #[tactic(auto, unfolding(crate::specs::Nodes::Lives, crate::specs::Nodes::LivesIf))]
+#[inline(always)]
 pub(crate) fn whole<W: Weave>(
     nodes: &Arena<Packed<Data<W::Item, W::Sum, W::By>>>,
     id: Option<NodeId>,
@@ -24,7 +25,7 @@ pub(crate) fn whole<W: Weave>(
     }
 }
 
-/// The data of a node over subtrees with the sums `left` and `right`.
+/// Returns the data of a node over subtrees whose roots keep the sums `left` and `right`.
 #[tactic(auto, unfolding(crate::specs::Relative::CanSumOver, crate::specs::Relative::IsSummed))]
 pub(crate) fn summed<W: Weave>(
     item: W::Item,
@@ -45,7 +46,8 @@ pub(crate) fn summed<W: Weave>(
     }
 }
 
-/// A node's data, and its child's, after a turn to that side's other.
+/// Returns the data of the lower and of the upper node after a rotation that lifts the child on the side `side`. `mid` is the sum of the
+/// subtree that changes its parent, `far` that of the node's other subtree.
 #[tactic(auto, using(crate::proofs::Turning::lowering), unfolding(crate::specs::Relative::CanTurnOver, crate::specs::Relative::IsLowered, crate::specs::Relative::IsSummed, crate::specs::Relative::IsRaised))]
 fn turned_data<W: Weave>(
     side: Side,
@@ -83,7 +85,7 @@ fn turned_data<W: Weave>(
     }
 }
 
-/// Turns a node, and keeps the sums right.
+/// Rotates at a node, as `turn` does, and updates the sums of both nodes.
 #[tactic(auto, using(crate::proofs::Turning::turning_node), unfolding(crate::specs::Nodes::TurnsAt, crate::specs::Relative::CanTurnNode))]
 pub(crate) fn turn_node<W: Weave>(
     tree: &mut Links<Data<W::Item, W::Sum, W::By>>,

@@ -1,4 +1,4 @@
-//! The tree as its users see it.
+//! The public interface of the tree.
 ghost use Rattle.std.specs.Prelude.{◌≡◌, None, ◌≤◌, [], OnOk};
 ghost use Rattle.rb_rules.specs.Woven.{sum_of};
 ghost use Rattle.rb_arena.specs.RbTree.{listed, first_or, last_or, name_at_end, name_beside};
@@ -6,7 +6,6 @@ ghost use Rattle.rb_arena.specs.RbTree.{IsItem, AtItem, NamesDiffer};
 ghost use Rattle.rb_arena.specs.Names.{HaveOwnNames};
 
 mod edits;
-mod items;
 mod loose;
 mod search;
 mod walking;
@@ -24,14 +23,14 @@ pub use walking::Walk;
 
 /// A list of items in a red-black tree that keeps sums of them.
 ///
-/// A contract sees the items in order, each under its name, those that were lifted out of the list and keep their names, and for how
-/// many more there is room.
+/// A contract sees the items in order, each with its name; the loose items, which were lifted out of the list and keep their names; and
+/// the number of further items for which there is room.
 #[derive(Drop)]
 pub struct RbTree<W: Weave> {
     links: Links<Data<W::Item, W::Sum, W::By>>,
-    /// A reach within which the shifts of all paths lie.
+    /// A reach that contains the shifts of all paths.
     reach: W::By,
-    /// The first of the chain of loose nodes.
+    /// The first node of the chain of loose nodes.
     loose: Option<NodeId>,
 }
 
@@ -48,7 +47,7 @@ impl<W: Weave> Model for RbTree<W> {
 }
 
 impl<W: Weave> RbTree<W> {
-    /// A tree with no item.
+    /// Makes an empty tree without room for items.
     pub fn new(alloc: Global) -> RbTree<W>
         requires { W.is_value W.weaving.none }
         ensures { result ≡ listed [] [] 0 }
@@ -63,7 +62,7 @@ impl<W: Weave> RbTree<W> {
         }
     }
 
-    /// Makes room for `count` more items. It fails where memory is short.
+    /// Makes room for `count` more items. Fails if memory is short, or if 2^32 or more slots would be needed.
     #[tactic(auto, using(crate::proofs::Seeing::staying))]
     pub fn reserve(&mut self, count: u64) -> Result<(), AllocError>
         ensures items { self.new.items ≡ self.old.items }
@@ -74,7 +73,7 @@ impl<W: Weave> RbTree<W> {
         self.links.nodes.reserve(count)
     }
 
-    /// The name of the item at that end. No name stands twice.
+    /// Returns the name of the item at one end; None if the list is empty. All names differ, those of the loose items included.
     #[tactic(auto, using(crate::proofs::Seeing::ends))]
     fn end(&self, side: Side) -> Option<NodeId>
         ensures end { result ≡ name_at_end side self.now.items }
@@ -83,7 +82,7 @@ impl<W: Weave> RbTree<W> {
         parent_at(&end_place(&self.links, None, self.links.root, side))
     }
 
-    /// The name of the item right beside that one, on that side.
+    /// Returns the name of the next item after `id` on the side `side`; None if there is none.
     #[tactic(auto, using(crate::proofs::Seeing::beside))]
     fn beside(&self, id: NodeId, side: Side) -> Option<NodeId>
         requires { IsItem self.now.items id }
@@ -92,7 +91,7 @@ impl<W: Weave> RbTree<W> {
         neighbour(&self.links, id, side)
     }
 
-    /// The first item's name. No name stands twice, among the items and the loose ones.
+    /// Returns the name of the first item; None if the list is empty. All names differ, those of the loose items included.
     #[tactic(auto, unfolding(crate::specs::RbTree::NamesDiffer, crate::specs::RbTree::name_at_end))]
     pub fn first(&self) -> Option<NodeId>
         ensures first { result ≡ first_or None self.now.items }
@@ -101,7 +100,7 @@ impl<W: Weave> RbTree<W> {
         self.end(Side::Left)
     }
 
-    /// The last item's name.
+    /// Returns the name of the last item; None if the list is empty.
     #[tactic(auto, unfolding(crate::specs::RbTree::name_at_end))]
     pub fn last(&self) -> Option<NodeId>
         ensures { result ≡ last_or None self.now.items }
@@ -109,7 +108,7 @@ impl<W: Weave> RbTree<W> {
         self.end(Side::Right)
     }
 
-    /// The name of the item after that one.
+    /// Returns the name of the item after `id`; None after the last.
     pub fn next(&self, id: NodeId) -> Option<NodeId>
         requires { IsItem self.now.items id }
         ensures { AtItem self.now.items id (λ us x vs. result ≡ first_or None vs) }
@@ -117,7 +116,7 @@ impl<W: Weave> RbTree<W> {
         self.beside(id, Side::Right)
     }
 
-    /// The name of the item before that one.
+    /// Returns the name of the item before `id`; None before the first.
     pub fn prev(&self, id: NodeId) -> Option<NodeId>
         requires { IsItem self.now.items id }
         ensures { AtItem self.now.items id (λ us x vs. result ≡ last_or None us) }
@@ -125,7 +124,7 @@ impl<W: Weave> RbTree<W> {
         self.beside(id, Side::Left)
     }
 
-    /// The item of that name.
+    /// Returns the item with the name `id`.
     #[tactic(auto, using(crate::proofs::Seeing::getting))]
     pub fn get(&self, id: NodeId) -> W::Item
         requires { IsItem self.now.items id }
@@ -134,7 +133,7 @@ impl<W: Weave> RbTree<W> {
         item_at::<W>(&self.links, id)
     }
 
-    /// The sum of all items.
+    /// Returns the sum of all items.
     #[tactic(auto, using(crate::proofs::Seeing::summing))]
     pub fn sum(&self) -> W::Sum
         ensures { result ≡ sum_of W.weaving self.now.items }

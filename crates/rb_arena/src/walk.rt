@@ -1,4 +1,4 @@
-//! Walks to an end of a subtree, and to the node beside a node.
+//! Walks to the end of a subtree, and to the next node on one side.
 ghost use Rattle.std.specs.Prelude.{◌≡◌, ◌-◌, Some};
 ghost use Rattle.raw_arena.specs.Arena.{node};
 ghost use Rattle.rb_rules.specs.declared.slot.Side.TheVariants.{Left};
@@ -12,7 +12,8 @@ use raw_arena::NodeId;
 use rb_rules::{Side, Slot};
 use steps::Steps;
 
-/// The last place on that side of a subtree that hangs at a place. Each node on the way counts as a step.
+/// Returns the last place on the side `side` of the subtree `below`, which hangs at the place `from`. Each node on the way counts as a
+/// step.
 #[tactic(auto, using(crate::proofs::Walks::to_end))]
 fn end_from<D: Copy, L>(
     tree: &Links<D>,
@@ -37,7 +38,7 @@ fn end_from<D: Copy, L>(
     at
 }
 
-/// The same, and counts no step.
+/// Returns the same place as `end_from`, without counting steps.
 pub(crate) fn end_place<D: Copy>(
     tree: &Links<D>,
     from: Place,
@@ -50,7 +51,7 @@ pub(crate) fn end_place<D: Copy>(
     end_from(tree, from, below, side, &mut Steps::new())
 }
 
-/// The first place of a subtree that hangs at a place.
+/// Returns the first place of the subtree `below`, which hangs at the place `from`.
 fn first_place<D: Copy>(tree: &Links<D>, from: Place, below: Option<NodeId>) -> Place
     requires { HangsAt tree.now from below }
     ensures { IsEnd tree.now from below Left result }
@@ -58,7 +59,7 @@ fn first_place<D: Copy>(tree: &Links<D>, from: Place, below: Option<NodeId>) -> 
     end_place(tree, from, below, Side::Left)
 }
 
-/// The place right after a node, or before all nodes.
+/// Returns the place right after the node `id`, or before all nodes if `id` is None.
 #[tactic(auto, using(crate::proofs::Walks::past))]
 pub(crate) fn place_after<D: Copy>(tree: &Links<D>, id: Option<NodeId>) -> Place
     requires { HangsPast tree.now id }
@@ -74,7 +75,8 @@ pub(crate) fn place_after<D: Copy>(tree: &Links<D>, id: Option<NodeId>) -> Place
     }
 }
 
-/// The nearest node above that one that has it on that side; `parent` stands right above it. Each node on the way counts as a step.
+/// Returns the nearest ancestor of `id` that has it on the side `side`, or None; `parent` is the parent of `id`. Each node on the way
+/// counts as a step.
 #[tactic(auto, using(crate::proofs::Walks::up))]
 fn rise_on<D: Copy, L>(
     tree: &Links<D>,
@@ -104,8 +106,8 @@ fn rise_on<D: Copy, L>(
     None
 }
 
-/// The node right beside that one in the order of the tree, on that side, from the slot that was read of that one. Each node that is
-/// visited counts as a step.
+/// Returns the next node after `id` on the side `side`, in the order of the tree; `slot` is the content of `id`. Each visited node counts
+/// as a step.
 #[tactic(auto, using(crate::proofs::Walks::sideways), unfolding(crate::specs::Ends::StandsLow))]
 pub(crate) fn beside_of<D: Copy, L>(
     tree: &Links<D>,
@@ -126,7 +128,7 @@ pub(crate) fn beside_of<D: Copy, L>(
     }
 }
 
-/// The node right beside that one in the order of the tree, on that side. It counts no step.
+/// Returns the next node after `id` on the side `side`, in the order of the tree, without counting steps.
 #[tactic(auto, unfolding(crate::specs::Ends::StandsLow))]
 pub(crate) fn neighbour<D: Copy>(tree: &Links<D>, id: NodeId, side: Side) -> Option<NodeId>
     requires { StandsLow tree.now id }

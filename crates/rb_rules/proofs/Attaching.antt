@@ -1,4 +1,4 @@
--- A leaf that comes to a hole of a tree in memory.
+-- Attachment of a leaf at a hole of a tree in memory.
 use Rattle.std.proofs.Common.{◌≡◌, ◌≢◌, ℕ, ◌+◌, ◌≤◌, Bool, true, false, cond, eqb, Option, Some, None, refl, sym, ap, ◌∙◌, arith, inl, inr}
 use Rattle.std.proofs.lemmas.Bool.Decides.{eqb_tells}
 use Rattle.std.proofs.lemmas.Option.{none-some}
@@ -45,7 +45,7 @@ module _ {D : Type 0} (m : map.FinMap nat_cmp (Slot D)) where
     once = h.once;
   }
 
-  -- a leaf that stands in neither tree is hung at a hole
+  -- a leaf that is in neither tree is attached at a hole
   pub planted : (root : Option ℕ) (k : Hole D) (i : ℕ) (d : D) → map.get m i ≡ Some (sided Left (above k) None None true d) → {beside : Tree D} → count i (plug k tip) + count i beside ≡ 0
       → Made beside m root (plug k tip) → Made beside (hung m (place_of k) (Some i)) (root_hung root (place_of k) (Some i)) (plug k (fork true i d tip tip))
   planted root k i d found {beside} none h =

@@ -20,7 +20,7 @@ twice true h n le = omega arith
 twice false h n le = omega arith
 
 module _ {D : Type 0} where
-  -- the black nodes alone make many, and twice as many where the topmost is red
+  -- the black nodes alone give a lower bound for the size, twice as great if the root is red
   pub many : (c : Bool) (n : ℕ) (t : Tree D) → Rb c n t → 2 ^ (cond c 1 0 + n) ≤ size t + 1
   many c n tip (e, f) =
       let none : cond c 1 0 + n ≡ 0 = ap (λ b. cond b 1 0 + n) e ∙ omega (arith, f) in subst (λ k. 2 ^ k ≤ 0 + 1) (sym none) (lit≤ tt)
@@ -33,7 +33,7 @@ module _ {D : Type 0} where
       let is : cond c 1 0 + n ≡ suc m = ap (λ b_. cond b_ 1 0 + n) e ∙ omega (arith, f) in
       subst (λ k. 2 ^ k ≤ (1 + (size x + size y)) + 1) (sym is) (omega (arith, l, r, two))
 
-  -- no two red nodes meet on a path
+  -- a bound for the height, since no two red nodes are adjacent on a path
   pub not_long : (c : Bool) (n : ℕ) (t : Tree D) → Rb c n t → height t ≤ cond c 1 0 + (n + n)
   not_long c n tip r = omega arith
   not_long c n (fork true i d x y) (e, a, b) =

@@ -1,4 +1,4 @@
--- A node that comes to the front of what lies beside a tree in memory, or leaves it.
+-- A node is put in front of the tree beside a tree in memory, or is removed from its front.
 use Rattle.std.proofs.Common.{◌≡◌, ℕ, ◌+◌, Bool, false, eqb, Option, Some, None, ap, ◌∙◌, arith}
 use Rattle.std.specs.Ordering.{nat_cmp}
 use Rattle.std.specs.FinMap as map

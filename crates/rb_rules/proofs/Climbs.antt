@@ -1,4 +1,4 @@
--- A climb that renews the sums of the nodes above a tree.
+-- A walk up that recomputes the sums of the nodes above a tree.
 use Rattle.std.proofs.Common.{◌≡◌, ℕ, suc, ◌≤◌, Option, Some, None, refl, sym, ap, ◌∙◌, subst, arith}
 use Rattle.std.specs.Option.{unwrap_or}
 use Rattle.std.proofs.lemmas.Option.{none-some}
@@ -77,7 +77,7 @@ module _ {X S B : Type 0} (w : Weaving X S B) (L : Lawful w) (is_near : B → Ty
       climbed p id n whole {beside} (on Right c i d x k, (t, same, made, at, wt, (wx, sl), v, le)) done parent =
           step p id i n whole (record { beside = beside; hole = k; red = c; datum = d; left = x; right = t }) (ap (λ o. unwrap_or o 0) at) same made wx wt sl v (omega (arith, le)) done parent
 
-    -- at the top all is right
+    -- at the root all sums are right
     pub ended : (n : ℕ) (whole : Tree (Data X S B)) → {beside : Tree (Data X S B)} → IsSlack w is_near is_item is_value beside m root None n whole → Made beside m root whole × Woven w is_near w.still whole
     ended n whole {beside} (top, (t, same, made, at, wt, sl, v, le)) = (subst (Made beside m root) (sym same) made, subst (Woven w is_near w.still) (sym same) wt)
     ended n whole {beside} (on s c i d x k, (t, same, made, at, wt, sl, v, le)) = absurd (none-some i at)
@@ -86,7 +86,7 @@ module _ {X S B : Type 0} (w : Weaving X S B) (L : Lawful w) (is_near : B → Ty
     none_left at whole (top, (t, same, made, e, wt, sl, v, le)) = e
     none_left at whole (on s c i d x k, (t, same, made, e, wt, sl, v, le)) = absurd (omega arith)
 
-  -- a node's new sums can be computed
+  -- the new sums of a node can be computed
   pub can_renew : (i : ℕ) (s : Spot (Data X S B)) → Woven w is_near (shift_at w s.hole) s.left → Woven w is_near (w.plus (shift_at w s.hole) s.datum.delta) s.right
       → Valued w is_item is_value (entries w (shift_at w s.hole) (here s i)) → CanSumUp w is_near is_item is_sum is_value s.datum.item s.datum.delta (whole_at w s.left) (whole_at w s.right)
   can_renew i s wl wr v = can_sum_up w L is_near is_item is_sum is_value sums parts (shift_at w s.hole) i s.datum.item s.datum.delta s.left s.right wl wr v

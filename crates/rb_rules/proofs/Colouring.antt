@@ -1,4 +1,4 @@
--- What turns and paintings do to the colours of a tree.
+-- The effect of rotations and colour changes on the colours of a tree.
 use Rattle.std.proofs.Common.{◌≡◌, ℕ, suc, Bool, true, false, refl, subst, arith}
 use Rattle.std.proofs.lemmas.Bool.{true≢false, false≢true}
 use Rattle.rb_rules.specs.declared.slot.Side.{Side}
@@ -23,7 +23,7 @@ module _ {D : Type 0} where
   of_black Left c n i d x y (e, (m, f, a, b)) = (e, (m, f, a, b))
   of_black Right c n i d x y (e, (m, f, a, b)) = (e, (m, f, b, a))
 
-  -- a hole in which a red tree may stand takes a black one too
+  -- a hole for a red tree takes a black one too
   pub fits_either : (c : Bool) (n : ℕ) (k : Hole D) → Fits true n k → Fits c n k
   fits_either c n top f = tt
   fits_either c n (on s true i d x k) (e, a, b) = absurd (true≢false e)
@@ -44,7 +44,7 @@ module _ {D : Type 0} where
       let (n, (c, r, f)) = unplugged k (forked s false i d t x) whole in let (e, (m, g, (a, ra), b)) = of_black s c n i d t x r in
       (m, (a, ra, (b, subst (λ b_. Fits b_ (suc m) k) e (subst (λ l. Fits c l k) g f))))
 
-  -- Insertion: a red tree stands in a hole that may want a black one.
+  -- Insertion: a red tree is in a hole that may require a black one.
   module _ (s : Side) (n : ℕ) (t : Tree D) (red : Rb true n t) (p : ℕ) (dp : D) (x : Tree D) where
     pub blackened_root : Fits false n (on s true p dp x top) → Balanced (forked s false p dp t x)
     blackened_root (e, a, b) = (suc n, (false, black_forked s n p dp t x (true, red) (false, a)))
@@ -65,9 +65,9 @@ module _ {D : Type 0} where
   inner s n z p dz dp dz2 dp2 a b x k red (e, rx, f) =
       let (e2, ra, rb) = of_red s true n z dz a b red in (red_forked s n p dp2 b x rb rx, (refl, ra, f))
 
-  -- Removal: a tree with one black node too few on each path stands in a hole.
+  -- Removal: a tree with one black node too few on each path is in a hole.
   module _ (s : Side) (n p : ℕ) (dp : D) (k : Hole D) where
-    -- the brother of such a tree has a node
+    -- the brother of such a tree is not empty
     pub some_brother : (c : Bool) → Fits false (suc n) (on s c p dp tip k) → ⊥
     some_brother true (e, (f, g), h) = absurd (omega arith)
     some_brother false ((b, (f, g)), h) = absurd (omega arith)
@@ -108,7 +108,7 @@ module _ {D : Type 0} where
       inner_red true (e, r, f) ro = (e, inner_turned false r ro, f)
       inner_red false ((c, r), f) ro = ((false, inner_turned c r ro), f)
 
-    -- both children of a black brother are black: it turns red
+    -- both children of a black brother are black: it becomes red
     module _ (q : ℕ) (dq : D) (out mid : Tree D) where
       reddened : (c : Bool) → Rb c (suc n) (forked (other s) false q dq out mid) → Rb false n out → Rb false n mid → Rb true n (forked (other s) true q dq out mid)
       reddened c r ro rm = red_forked (other s) n q dq out mid ro rm

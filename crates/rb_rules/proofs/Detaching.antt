@@ -1,4 +1,4 @@
--- A node with one subtree at most leaves a tree in memory, and its name goes.
+-- Removal of a node with at most one subtree from a tree in memory, and of its name.
 use Rattle.std.proofs.Common.{◌≡◌, ◌≢◌, ℕ, ◌+◌, ◌≤◌, Bool, true, false, cond, eqb, Option, Some, None, refl, sym, ap, ◌∙◌, subst, arith, inl, inr}
 use Rattle.std.proofs.lemmas.Bool.{false≢true}
 use Rattle.std.proofs.lemmas.Bool.Decides.{eqb_tells}
@@ -27,7 +27,7 @@ pub same_name : (j i : ℕ) → eqb j i ≡ true → j ≡ i
 same_name j i e = elim (eqb_tells j i) [ inl (_, same) ↦ same | inr (f, _) ↦ absurd (false≢true (sym f ∙ e)) ]
 
 module _ {D : Type 0} (m : map.FinMap nat_cmp (Slot D)) where
-  -- the subtree takes the node's place
+  -- the subtree is put in the node's place
   pub spliced : (root : Option ℕ) (k : Hole D) (s : Side) (c : Bool) (i : ℕ) (d : D) (x : Tree D) → {beside : Tree D} → Made beside m root (plug k (forked s c i d x tip))
       → Made beside (hung (adopted m (root_of x) (above k)) (place_of k) (root_of x)) (root_hung root (place_of k) (root_of x)) (plug k x)
   spliced root k s c i d x {beside} h =
@@ -45,7 +45,7 @@ module _ {D : Type 0} (m : map.FinMap nat_cmp (Slot D)) where
       let (from, nodes) = closed m2 root2 k x round2 x2 in
       record { from = from; nodes = nodes; aside = aside2; once = λ j. let p = parts j in let b = count-plug j k x in omega (arith, p, b) }
 
-  -- a name that is not in the tree may go
+  -- a name that is not in the tree may be removed
   module _ (i : ℕ) where
     without : (p : Option ℕ) (t : Tree D) → count i t ≡ 0 → Makes m p t → Makes (map.remove m i) p t
     without p tip none h = tt
@@ -57,14 +57,14 @@ module _ {D : Type 0} (m : map.FinMap nat_cmp (Slot D)) where
     forgotten root t {beside} none h =
         record { from = h.from; nodes = without None t (omega (arith, none)) h.nodes; aside = without None beside (omega (arith, none)) h.aside; once = h.once }
 
-  -- the node that left is not in the tree any more, nor in the one beside
+  -- the removed node is neither in the tree nor in the one beside
   pub gone : (root : Option ℕ) (k : Hole D) (s : Side) (c : Bool) (i : ℕ) (d : D) (x : Tree D) → {beside : Tree D} → Made beside m root (plug k (forked s c i d x tip))
       → count i (plug k x) + count i beside ≡ 0
   gone root k s c i d x {beside} h =
       let a = h.once i in let b = count-plug i k (forked s c i d x tip) in let f = count-forked i s c i d x tip in let g = count_self i (count i x + 0) in let q = count-plug i k x in
       omega (arith, a, b, f, g, q)
 
-  -- another node takes a node's place, with its links and its colour
+  -- a node is put in the place of another, with its links and its colour
   module _ (root : Option ℕ) (k : Hole D) (c : Bool) (i j : ℕ) (d e : D) (x y : Tree D) where
     abbrev r1 : map.FinMap nat_cmp (Slot D)
     r1 = adopted m (root_of x) (Some j)

@@ -1,4 +1,4 @@
--- A turn at a node of a tree in memory: its numbers are the relative form of values, and it leaves the sums right.
+-- A rotation at a node of a tree in memory: its numbers are relative forms of values, and it keeps the sums right.
 use Rattle.std.proofs.Common.{◌≡◌, ℕ, Bool, ◌++◌, Option, Some, refl, sym, ap, ◌∙◌, subst}
 use Rattle.std.specs.Option.{unwrap_or}
 use Rattle.std.specs.Ordering.{nat_cmp}
@@ -29,7 +29,7 @@ turned-forked Right low high a b n c dn dc out mid far = refl
 
 module _ {X S B : Type 0} (w : Weaving X S B) (L : Lawful w) (is_near : B → Type 0) (is_item : X → Type 0) (is_sum is_value : S → Type 0)
     (sums : Sums w is_item is_sum) (parts : (a b : S) → is_value (w.join a b) → is_value a × is_value b) where
-  -- the part of the items that stands in a hole
+  -- the items of the tree in a hole are values if those of the whole tree are
   pub valued_at : (k : Hole (Data X S B)) (t : Tree (Data X S B)) → Valued w is_item is_value (entries w w.still (plug k t)) → Valued w is_item is_value (entries w (shift_at w k) t)
   valued_at k t v =
       let all = subst (Valued w is_item is_value) (entries-plug w L is_near k t) v in

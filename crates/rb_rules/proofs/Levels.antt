@@ -1,4 +1,4 @@
--- A tree whose shifts are applied has the same items and the same shape, and right sums.
+-- A tree with its shifts applied has the same items, the same shape and the right sums.
 use Rattle.std.proofs.Common.{◌≡◌, ◌∷◌, ◌++◌, refl, sym, ap, ◌∙◌, subst}
 use Rattle.rb_rules.specs.declared.slot.Data.{Data}
 use Rattle.rb_rules.specs.Tree.{Tree, tip, fork}
@@ -28,7 +28,7 @@ module _ {X S B : Type 0} (w : Weaving X S B) where
         let right = ap (λ b. entries w b (levelled w (w.plus acc d.delta) y)) (L.plus_still w.still) ∙ entries-levelled (w.plus acc d.delta) y in
         λ j. entries-levelled acc x j ++ (i, L.shift_still (w.shift acc d.item) j) ∷ right j
 
-    -- and its paths have no shift but the still one
+    -- and the only shift of its paths is `still`
     pub woven-levelled : (is_near is_still : B → Type 0) → is_still w.still → (acc : B) (t : Tree (Data X S B)) → Woven w is_near acc t → Woven w is_still w.still (levelled w acc t)
     woven-levelled is_near is_still still acc tip h = still
     woven-levelled is_near is_still still acc (fork c i d x y) (a, b, l, r) = (

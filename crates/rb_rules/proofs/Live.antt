@@ -1,4 +1,4 @@
--- Which names are live, and how many, after the writes of a turn.
+-- The live names and their number, after the writes of a rotation.
 use Rattle.std.proofs.Common.{◌≡◌, ℕ, ◌+◌, Bool, cond, eqb, Option, Some, None, refl, sym, ap, ◌∙◌, subst, arith, inl, inr, eq-eqb}
 use Rattle.std.specs.Prelude.{IfSome}
 use Rattle.std.specs.Option.{unwrap_or}
@@ -67,7 +67,7 @@ module _ {D : Type 0} where
   forks (fork b i d x y) j e = let P : ℕ → Type 0 = λ k. (b_ : Bool) × ((d_ : D) × (x_ : Tree D) × (y_ : Tree D) × (fork b i d x y ≡ fork b_ k d_ x_ y_)) in
       subst P (ap (λ o. unwrap_or o 0) e) (b, (d, x, y, refl))
 
-  -- a node of that name on one side, with its own subtrees there and away
+  -- a tree with that root is a node with one subtree on that side and one on the other
   pub forks_on : (s : Side) (t : Tree D) (j : ℕ) → root_of t ≡ Some j → (b : Bool) × ((d : D) × (x : Tree D) × (y : Tree D) × (t ≡ forked s b j d x y))
   forks_on Left t j e = forks t j e
   forks_on Right t j e = let (b, (d, x, y, f)) = forks t j e in (b, (d, y, x, f))
@@ -76,7 +76,7 @@ module _ {D : Type 0} where
   here_forked Left sp i = refl
   here_forked Right sp i = refl
 
-  -- a tree that does not count a name does not begin with it
+  -- a name that does not occur in a tree is not that of its root
   not_root : (t : Tree D) (i : ℕ) → root_of t ≡ Some i → count i t ≡ 0 → ⊥
   not_root tip i e none = none-some i e
   not_root (fork c j d x y) i e none =
@@ -99,7 +99,7 @@ module _ {D : Type 0} where
     live_place top o h = tt
     live_place (on s c i d x k) o (e, a, b) = (_, e)
 
-    -- which side a node is on, by its parent's left link
+    -- the side of a node, from its parent's left link
     pub side_is : (sp : Spot D) (i : ℕ) → Made sp.beside m root (plug sp.hole (here sp i)) → (j : ℕ) → above sp.hole ≡ Some j → (n : Slot D) → map.get m j ≡ Some n
         → Some (j, side_by_name n i) ≡ place_of sp.hole
     side_is sp i h j e n f =

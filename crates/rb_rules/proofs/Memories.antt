@@ -1,4 +1,4 @@
--- A tree in memory is taken apart at a hole and put together, and stays under writes elsewhere.
+-- Splitting of a tree in memory at a hole, joining of the parts, and writes elsewhere.
 use Rattle.std.proofs.Common.{◌≡◌, ◌≢◌, ℕ, ◌+◌, ◌≤◌, Bool, cond, eqb, Option, Some, None, refl, sym, ap, ◌∙◌, subst, arith, inl, inr}
 use Rattle.std.specs.Ordering.{nat_cmp}
 use Rattle.std.specs.FinMap as map
@@ -75,7 +75,7 @@ module _ {D : Type 0} where
   with_sided Right p o x y c d = refl
 
   module _ (m : map.FinMap nat_cmp (Slot D)) where
-    -- the link of a tree's topmost node to its parent changes
+    -- the link from a tree's root to its parent changes
     module _ (p q : Option ℕ) where
       pub kept_adopted : (t : Tree D) (u : Tree D) (pu : Option ℕ) → Makes m q t → Alone t u → Makes m pu u → Makes (adopted m (root_of t) p) pu u
       kept_adopted tip u pu h alone g = g

@@ -1,4 +1,4 @@
--- Lists that are rewritten in parts, and trees that list them.
+-- Lists rewritten in parts, and trees that list them.
 use Rattle.std.proofs.Common.{◌≡◌, ℕ, List, [], ◌∷◌, ◌++◌, refl, sym, ap, ◌∙◌}
 use Rattle.rb_rules.specs.Weaving.{Weaving, Lawful}
 use Rattle.rb_rules.specs.Rewriting.{rewritten_all, onward_all}
@@ -14,6 +14,6 @@ module _ {V X : Type 0} (rewritten : V → X → X) (onward : V → X → V) whe
   onward-append v [] ys = refl
   onward-append v (e ∷ xs) ys = onward-append (onward v e.1) xs ys
 
--- an item less the shift of its path
+-- an item relative to the shift of its path
 pub shift_back : {X S B : Type 0} (w : Weaving X S B) → Lawful w → (acc : B) (x : X) → w.shift acc (w.shift (w.minus w.still acc) x) ≡ x
 shift_back w L acc x = sym (L.shift_plus acc (w.minus w.still acc) x) ∙ ap (λ b. w.shift b x) (L.plus_minus w.still acc) ∙ L.shift_still x

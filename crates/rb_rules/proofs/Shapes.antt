@@ -1,4 +1,4 @@
--- What a tree's shape tells of it.
+-- Facts that follow from the shape of a tree.
 use Rattle.std.proofs.Common.{◌≡◌, ℕ, Bool, true, false, List, [], ◌∷◌, ◌++◌, refl, sym, ap, ◌∙◌, subst}
 use Rattle.rb_rules.specs.declared.slot.Data.{Data}
 use Rattle.rb_rules.specs.declared.slot.Side.{Side}
@@ -24,7 +24,7 @@ module _ {D E : Type 0} (f : D → E) where
   each-forked Left c i d x y = refl
   each-forked Right c i d x y = refl
 
-  -- trees that look alike look alike in a hole
+  -- trees of equal shape have equal shapes in a hole
   pub each-plug : (k : Hole D) (t u : Tree D) → each f t ≡ each f u → each f (plug k t) ≡ each f (plug k u)
   each-plug top t u e = e
   each-plug (on s c i d x k) t u e =

@@ -1,4 +1,4 @@
--- A tree below a shift that grows, and a hole whose items after it move.
+-- A tree below a path whose shift increases, and a hole with the items after it moved.
 use Rattle.std.proofs.Common.{◌≡◌, ℕ, ◌+◌, List, [], ◌∷◌, ◌++◌, refl, sym, ap, ◌∙◌, subst}
 use Rattle.std.proofs.lemmas.List.{map-append}
 use Rattle.rb_rules.specs.declared.slot.Data.{Data}
@@ -13,7 +13,7 @@ use Rattle.rb_rules.proofs.Levels.{bare}
 use Rattle.rb_rules.proofs.Wider.{woven_wider}
 
 module _ {X S B : Type 0} (w : Weaving X S B) where
-  -- where a moved hole stands
+  -- the shift at a moved hole
   pub above-moved : (by : B) (k : Hole (Data X S B)) → above (moved w by k) ≡ above k
   above-moved by top = refl
   above-moved by (on Left c i d x k) = refl
@@ -40,7 +40,7 @@ module _ {X S B : Type 0} (w : Weaving X S B) where
   lefts-moved by (on Right c i d x k) = λ j. lefts-moved by k j ++ (entries w (shift_at-moved by k j) x ++ (i, w.shift (shift_at-moved by k j) d.item) ∷ [])
 
   module _ (L : Lawful w) where
-    -- a shift below a path is one above it
+    -- a shift added below a path is a shift added above it
     plus_first : (acc by delta : B) → w.plus acc (w.plus by delta) ≡ w.plus by (w.plus acc delta)
     plus_first acc by delta = sym (L.plus_assoc acc by delta) ∙ ap (λ b. w.plus b delta) (L.plus_comm acc by) ∙ L.plus_assoc by acc delta
 
@@ -67,7 +67,8 @@ module _ {X S B : Type 0} (w : Weaving X S B) where
         (λ j. ((i, item j) ∷ right j) ++ rights-moved by k j) ∙ sym (map-append (λ e. (e.0, w.shift by e.1)) ((i, w.shift acc d.item) ∷ entries w (w.plus acc d.delta) x) (rights w k))
     rights-moved by (on Right c i d x k) = rights-moved by k
 
-    -- A tree keeps the right sums below a path whose shift has grown; is_far is met by what is_near is met by, and by the same moved by `by`.
+    -- A tree keeps the right sums below a path whose shift has increased; is_far holds of each shift of is_near, unchanged and moved by
+    -- `by`.
     module _ (is_near is_far : B → Type 0) where
       woven_shifted : (by : B) → ((b : B) → is_near b → is_far (w.plus by b)) → (acc : B) (t : Tree (Data X S B)) → Woven w is_near acc t → Woven w is_far (w.plus by acc) t
       woven_shifted by far acc tip h = far acc h

@@ -1,4 +1,4 @@
--- What a turn's reads find, and what its writes leave.
+-- The values read in a rotation, and the effect of its writes.
 use Rattle.std.proofs.Common.{◌≡◌, ℕ, Bool, Option, Some, None, refl, sym, ap, ◌∙◌, subst}
 use Rattle.std.specs.Prelude.{IfSome}
 use Rattle.std.specs.Option.{unwrap_or}
@@ -45,7 +45,7 @@ module _ {D : Type 0} (m : map.FinMap nat_cmp (Slot D)) (root : Option ℕ) wher
         let same : n ≡ sided s (Some i) (root_of x) (root_of y) b d = ap (λ o. unwrap_or o n) (sym f ∙ g) in
         subst (λ o. IfSome o (Live m)) (sym (far_child s (Some i) (root_of x) (root_of y) b d n same)) (live_root m root (Some j) y my)
 
-    -- the memory after a turn, by the slots that it read
+    -- the memory after a rotation, by the slots that it read
     abbrev pub after_turn : Side → ℕ → Slot D → Slot D → D → D → map.FinMap nat_cmp (Slot D)
     after_turn s j n l low high =
         map.insert (map.insert (hung (adopted m (child (other s) l) (Some i)) (place_of sp.hole) (Some j)) i (sided s (Some j) (child (other s) l) (child (other s) n) l.red low))

@@ -1,4 +1,4 @@
--- A tree that has the shape of a plugged one is plugged in the same way.
+-- A tree of the same shape as a plugged one is plugged in the same way.
 use Rattle.std.proofs.Common.{◌≡◌, ℕ, suc, ◌+◌, Bool, true, false, refl, sym, ap, ◌∙◌, subst}
 use Rattle.rb_rules.specs.declared.slot.Side.{Side}
 use Rattle.rb_rules.specs.declared.slot.Side.TheVariants.{Left, Right}

@@ -36,7 +36,7 @@ module _ {D : Type 0} where
       subst P (ap (λ o. unwrap_or o (i, s2)) e) (c, (d, x, k, refl))
 
   module _ (m : map.FinMap nat_cmp (Slot D)) (root : Option ℕ) where
-    -- the tree lies in the memory round a node just as round its spot
+    -- the tree is in the memory around a node just as around its spot
     module _ (beside : Tree D) where
       pub as_spot : (s : Side) (c : Bool) (p : ℕ) (d : D) (x y : Tree D) (k : Hole D) → Made beside m root (plug k (forked s c p d x y))
           → let sp = spot_of beside s c d x y k in Made sp.beside m root (plug sp.hole (here sp p))

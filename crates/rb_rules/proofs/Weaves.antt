@@ -1,4 +1,4 @@
--- The items and the sums of a tree under turns, and under a change in a hole.
+-- The items and the sums of a tree under rotations and under changes in a hole.
 use Rattle.std.proofs.Common.{◌≡◌, ℕ, Bool, List, [], ◌∷◌, ◌++◌, sym, ap, ◌∙◌, subst, append_assoc, append-nil}
 use Rattle.rb_rules.specs.declared.slot.Data.{Data}
 use Rattle.rb_rules.specs.declared.slot.Side.{Side}
@@ -21,7 +21,7 @@ module _ {X S B : Type 0} (w : Weaving X S B) (L : Lawful w) where
     whole_is acc tip h = L.shift_none acc
     whole_is acc (fork c i d x y) (a, b, l, r) = b
 
-    -- a node over two trees, with the sums that theirs give
+    -- a node over two trees, with sums computed from theirs
     pub woven_summed : (acc : B) (c : Bool) (i : ℕ) (item : X) (delta : B) (x y : Tree (Data X S B)) → Woven w is_near acc x → Woven w is_near (w.plus acc delta) y
         → Woven w is_near acc (fork c i (summed w item delta (whole_at w x) (whole_at w y)) x y)
     woven_summed acc c i item delta x y l r =
@@ -30,7 +30,7 @@ module _ {X S B : Type 0} (w : Weaving X S B) (L : Lawful w) where
         = L.shift_join acc _ _ ∙ (λ j. w.join (L.shift_one acc item j) ((sym (L.shift_sum_plus acc delta (whole_at w y)) ∙ right) j)) in
         (left, L.shift_join acc _ _ ∙ (λ j. w.join (left j) (one j)) ∙ sym (sum-append (entries w acc x) _), l, r)
 
-    -- a turn leaves the items in order, and each node's sums right
+    -- a rotation keeps the order of the items and the sums of each node
     module _ (acc : B) (a b : Bool) (n c : ℕ) (dn dc : Data X S B) (out mid far : Tree (Data X S B)) where
       abbrev low : Side → Data X S B
       low s = lowered w s dn dc (whole_at w mid) (whole_at w far)
@@ -84,7 +84,7 @@ module _ {X S B : Type 0} (w : Weaving X S B) (L : Lawful w) where
     woven_at (on Left c i d x k) t h = let (a, b, l, r) = woven_at k (fork c i d t x) h in l
     woven_at (on Right c i d x k) t h = let (a, b, l, r) = woven_at k (fork c i d x t) h in r
 
-    -- another tree with the same items in the hole
+    -- the tree in the hole is replaced by one with the same items
     pub woven_replug : (k : Hole (Data X S B)) (t u : Tree (Data X S B)) → Woven w is_near w.still (plug k t) → entries w (shift_at w k) u ≡ entries w (shift_at w k) t
         → Woven w is_near (shift_at w k) u → Woven w is_near w.still (plug k u)
     woven_replug top t u h e v = v

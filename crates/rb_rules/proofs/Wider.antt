@@ -1,4 +1,4 @@
--- What holds with shifts of one kind holds with those of a wider kind.
+-- Facts for shifts that satisfy one condition hold for those of a weaker condition.
 use Rattle.std.proofs.Common.{ℕ, Option}
 use Rattle.std.specs.Ordering.{nat_cmp}
 use Rattle.std.specs.FinMap as map

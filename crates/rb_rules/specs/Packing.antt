@@ -1,4 +1,4 @@
--- A node, as its code.
+-- The code of a node.
 use Rattle.std.specs.Prelude.{ℕ, Bool, Option, refl}
 use Rattle.std.specs.Coded.{Coded, code_by, coded×, coded_ℕ, coded_bool, coded_option}
 use Rattle.rb_rules.specs.declared.slot.Slot.{Slot}

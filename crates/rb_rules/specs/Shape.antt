@@ -1,4 +1,4 @@
--- Trees whose data are forgotten in part.
+-- Trees with part of their data forgotten.
 use Rattle.rb_rules.specs.declared.slot.Data.{Data}
 use Rattle.rb_rules.specs.Tree.{Tree, tip, fork}
 

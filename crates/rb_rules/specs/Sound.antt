@@ -1,4 +1,4 @@
--- Trees in memory whose nodes keep the right sums, over items that are values.
+-- Trees in memory with the right sums, over items that are values.
 use Rattle.std.specs.Prelude.{◌≡◌, ℕ, ◌≤◌, List, Option, IsSome}
 use Rattle.std.specs.Ordering.{nat_cmp}
 use Rattle.std.specs.FinMap as map
@@ -12,12 +12,12 @@ use Rattle.rb_rules.specs.Shape.{shape}
 use Rattle.rb_rules.specs.Weaving.{Weaving, summed}
 use Rattle.rb_rules.specs.Woven.{entries, Woven, Valued, whole_at, shift_at}
 
--- a node's data with the sums that its subtrees give
+-- the data of a node with the sums of its subtrees
 abbrev pub renewed : {X S B : Type 0} → Weaving X S B → Spot (Data X S B) → Data X S B
 renewed w s = summed w s.datum.item s.datum.delta (whole_at w s.left) (whole_at w s.right)
 
 module _ {X S B : Type 0} (w : Weaving X S B) (is_near : B → Type 0) where
-  -- the tree's nodes keep the right sums, and its items are es
+  -- the tree has the right sums, and its items are es
   abbrev pub Lists : Tree (Data X S B) → List (ℕ × X) → Type 0
   Lists t es = Woven w is_near w.still t × (entries w w.still t ≡ es)
 
@@ -28,7 +28,7 @@ module _ {X S B : Type 0} (w : Weaving X S B) (is_near : B → Type 0) where
         (s : Spot (Data X S B)) × Made s.beside m root (plug s.hole (here s i)) × IsSome (root_of (below side s))
         × Woven w is_near w.still (plug s.hole (here s i)) × Valued w is_item is_value (entries w w.still (plug s.hole (here s i)))
 
-  -- the tree turned at that node lies in the memory, and lists the same
+  -- the tree rotated at that node is in the memory, and lists the same items
   abbrev pub TurnedAt : map.FinMap nat_cmp (Slot (Data X S B)) → Option ℕ → ℕ → Side → Spot (Data X S B) → Type 0
   TurnedAt m root i side s =
       Woven w is_near w.still (plug s.hole (here s i)) → (low : Data X S B) × ((high : Data X S B)
@@ -48,12 +48,12 @@ module _ {X S B : Type 0} (w : Weaving X S B) (is_near : B → Type 0) where
         × Woven w is_near (shift_at w s.hole) s.left × Woven w is_near (w.plus (shift_at w s.hole) s.datum.delta) s.right
         × Valued w is_item is_value (entries w (shift_at w s.hole) (here s i))
 
-    -- the tree lies in the memory, right but for the nodes above one, whose name is at; no more than n of these
+    -- The tree is in the memory. Its sums are right except in the node `at` and its ancestors, at most n nodes.
     abbrev pub IsSlack : Tree (Data X S B) → map.FinMap nat_cmp (Slot (Data X S B)) → Option ℕ → Option ℕ → ℕ → Tree (Data X S B) → Type 0
     IsSlack beside m root at n whole =
         (k : Hole (Data X S B)) × ((t : Tree (Data X S B)) × (whole ≡ plug k t) × Made beside m root (plug k t) × (at ≡ above k)
         × Woven w is_near (shift_at w k) t × Slack k × Valued w is_item is_value (entries w w.still (plug k t)) × (depth k ≤ n))
 
-  -- a tree like that one but with the right sums lies in the memory
+  -- a tree with the shape of t and the right sums is in the memory
   abbrev pub RenewedFrom : Tree (Data X S B) → map.FinMap nat_cmp (Slot (Data X S B)) → Option ℕ → Tree (Data X S B) → Type 0
   RenewedFrom beside m root t = (u : Tree (Data X S B)) × Made beside m root u × Woven w is_near w.still u × (shape u ≡ shape t)

@@ -8,7 +8,7 @@ pub data Tree (D : Type 0) : Type 0 where
   tip : Tree D
   fork : Bool → ℕ → D → Tree D → Tree D → Tree D
 
--- a tree with a hole, from the hole up: the node above is on that side's other end, with its other subtree
+-- A tree with a hole, from the hole up. `on` gives a node with the hole on one side and its other subtree on the other.
 pub data Hole (D : Type 0) : Type 0 where
   top : Hole D
   on : Side → Bool → ℕ → D → Tree D → Hole D → Hole D
@@ -28,7 +28,7 @@ module _ {D : Type 0} where
   plug top t = t
   plug (on s c i d x k) t = plug k (forked s c i d t x)
 
-  -- the name of the topmost node
+  -- the name of the root
   abbrev pub root_of : Tree D → Option ℕ
   root_of tip = None
   root_of (fork c i d x y) = Some i
@@ -38,7 +38,7 @@ module _ {D : Type 0} where
   above top = None
   above (on s c i d x k) = Some i
 
-  -- how often a name stands in a tree, and round a hole
+  -- the number of times that a name occurs in a tree, and around a hole
   abbrev pub count : ℕ → Tree D → ℕ
   count j tip = 0
   count j (fork c i d x y) = cond (eqb j i) 1 0 + (count j x + count j y)
@@ -51,12 +51,12 @@ module _ {D : Type 0} where
   size tip = 0
   size (fork c i d x y) = 1 + (size x + size y)
 
-  -- the nodes on the longest path
+  -- the number of nodes on the longest path
   abbrev pub height : Tree D → ℕ
   height tip = 0
   height (fork c i d x y) = 1 + max (height x) (height y)
 
-  -- how many nodes stand above the hole
+  -- the number of nodes above the hole
   abbrev pub depth : Hole D → ℕ
   depth top = 0
   depth (on s c i d x k) = 1 + depth k

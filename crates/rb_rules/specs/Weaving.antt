@@ -1,10 +1,10 @@
--- What the nodes of a tree keep, and how it is computed.
+-- The sums and shifts in the nodes of a tree, and their computation.
 use Rattle.std.specs.Prelude.{◌≡◌, Option, Some}
 use Rattle.rb_rules.specs.declared.slot.Data.{Data}
 use Rattle.rb_rules.specs.declared.slot.Side.{Side}
 use Rattle.rb_rules.specs.declared.slot.Side.TheVariants.{Left, Right}
 
--- items X, sums S of items, and shifts B of both
+-- operations on items X, sums S of items, and shifts B of both
 pub record Weaving (X S B : Type 0) : Type 0 where
   pub none : S
   pub one : X → S
@@ -33,12 +33,12 @@ pub record Lawful {X S B : Type 0} (w : Weaving X S B) : Type 0 where
   pub shift_one : (a : B) (x : X) → w.shift_sum a (w.one x) ≡ w.one (w.shift a x)
 
 module _ {X S B : Type 0} (w : Weaving X S B) where
-  -- a node's data over subtrees whose topmost nodes keep the sums l and r
+  -- a node's data over subtrees whose roots keep the sums l and r
   abbrev pub summed : X → B → S → S → Data X S B
   summed item delta l r = record { item = item; delta = delta; before = l; whole = w.join l (w.join (w.one item) (w.shift_sum delta r)) }
 
-  -- A turn: of a node with data n and its child on that side, with data c, the child comes to stand above the node.
-  -- `mid` is the sum of the subtree that the node takes over from the child, and `far` that of the node's subtree on the other side.
+  -- A rotation at a node with the data n, whose child on that side has the data c: the child comes above the node. `mid` is the sum of
+  -- the subtree that moves from the child to the node, `far` that of the node's subtree on the other side.
   abbrev pub lowered : Side → Data X S B → Data X S B → S → S → Data X S B
   lowered Left n c mid far = summed (w.shift (w.minus w.still c.delta) n.item) (w.minus n.delta c.delta) mid far
   lowered Right n c mid far = summed n.item n.delta far mid
@@ -53,26 +53,26 @@ module _ {X S B : Type 0} (w : Weaving X S B) where
   }
 
 module _ {X S B : Type 0} (w : Weaving X S B) (is_near : B → Type 0) where
-  -- A tree keeps numbers relative to a path. What is computed of them is the relative form of a value: some shift that a path may
-  -- have makes a value of it.
+  -- A tree keeps numbers relative to a path. A computed number must be the relative form of a value: some shift that a path may have
+  -- makes a value of it.
   abbrev pub HeldItem : (X → Type 0) → X → Type 0
   HeldItem is_item x = (acc : B) × is_near acc × is_item (w.shift acc x)
 
   abbrev pub HeldSum : (S → Type 0) → (S → Type 0) → S → Type 0
   HeldSum is_sum is_value s = (acc : B) × is_near acc × is_sum (w.shift_sum acc s) × is_value (w.shift_sum acc s)
 
-  -- a shift between two that a path may have
+  -- the shift is the difference of two shifts that a path may have
   abbrev pub HeldBy : B → Type 0
   HeldBy b = (acc : B) × is_near acc × is_near (w.plus acc b)
 
--- what sums of items always meet
+-- a property of all sums of items
 pub record Sums {X S B : Type 0} (w : Weaving X S B) (is_item : X → Type 0) (is_sum : S → Type 0) : Type 0 where
   pub of_none : is_sum w.none
   pub of_one : (x : X) → is_item x → is_sum (w.one x)
   pub of_join : (a b : S) → is_sum a → is_sum b → is_sum (w.join a b)
 
 module _ {X S B : Type 0} (w : Weaving X S B) (is_near : B → Type 0) (is_item : X → Type 0) (is_sum is_value : S → Type 0) where
-  -- each number on the way to `summed` is the relative form of a value
+  -- each intermediate result of `summed` is the relative form of a value
   abbrev pub CanSum : X → B → S → Type 0
   CanSum item delta r =
       HeldSum w is_near is_sum is_value (w.shift_sum delta r)
@@ -81,7 +81,7 @@ module _ {X S B : Type 0} (w : Weaving X S B) (is_near : B → Type 0) (is_item 
   abbrev pub CanSumUp : X → B → S → S → Type 0
   CanSumUp item delta l r = CanSum item delta r × HeldSum w is_near is_sum is_value (w.join l (w.join (w.one item) (w.shift_sum delta r)))
 
-  -- and to `lowered` and `raised`
+  -- the same for `lowered` and `raised`
   abbrev pub CanTurn : Side → Data X S B → Data X S B → S → S → Type 0
   CanTurn Left n c mid far =
       HeldBy w is_near (w.minus w.still c.delta) × HeldItem w is_near is_item (w.shift (w.minus w.still c.delta) n.item)
@@ -89,7 +89,7 @@ module _ {X S B : Type 0} (w : Weaving X S B) (is_near : B → Type 0) (is_item 
   CanTurn Right n c mid far =
       CanSumUp n.item n.delta far mid × HeldItem w is_near is_item (w.shift n.delta c.item) × HeldBy w is_near (w.plus n.delta c.delta)
 
--- a reach that a shift widens holds what the narrower one held, before the shift and after it
+-- a widened reach contains the shifts within the old reach, both unchanged and moved by the shift
 abbrev pub Widens : {X S B : Type 0} → Weaving X S B → (B → B → Type 0) → (B → B → Option B) → Type 0
 Widens {X} {S} {B} w within widened =
     (reach by wider b : B) → widened reach by ≡ Some wider → within reach b → within wider b × within wider (w.plus by b)

@@ -1,4 +1,4 @@
-//! The rules of a red-black tree whose nodes keep sums: what a node is, what it keeps, and the laws of both.
+//! Definitions for a red-black tree with sums in its nodes: nodes, their data, and the laws that these keep.
 #![tactic(auto)]
 
 mod packed;

@@ -1,4 +1,4 @@
-//! A node as it lies in memory.
+//! The layout of a node in memory.
 ghost use Rattle.std.specs.Prelude.{◌≡◌, ⊤};
 
 use crate::slot::Slot;
@@ -6,9 +6,9 @@ use raw_arena::Link;
 use std::alloc::AllocError;
 use std::marker::Model;
 
-/// A node as it lies in memory: each of its links has four bytes. A contract sees it as the node.
+/// A node as it is stored in memory, with links of four bytes. A contract sees it as a `Slot`.
 ///
-/// What a search reads of it lies together: the links down, and the beginning of the data.
+/// The fields that a search reads are adjacent: the links down, and the beginning of the data.
 #[derive(Copy)]
 pub struct Packed<D: Copy> {
     parent: Link,
@@ -54,6 +54,7 @@ impl<D: Copy> Packed<D> {
         }
     }
 
+    #[inline(always)]
     pub fn slot(&self) -> Slot<D>
         ensures { result ≡ self.now }
     {

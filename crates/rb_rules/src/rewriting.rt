@@ -1,18 +1,18 @@
-//! A change of a tree's items where they stand.
+//! Rewriting of a tree's items in place.
 ghost use Rattle.std.specs.Prelude.{◌≡◌, IsTrue};
 ghost use Rattle.rb_rules.specs.Rewriting.{Leaves};
 
 use crate::weave::Weave;
 
-/// A change of each item of a list where it stands, in order. How it goes on, it keeps in itself.
+/// A rewriting of the items of a list in place, in order. `self` is the state between two items.
 pub trait Rewriting<W: Weave> {
-    /// What becomes of an item.
+    /// The new form of an item, from the state before it.
     ghost rewritten: { Self → W.Item → W.Item };
 
-    /// How it goes on after an item.
+    /// The state after an item.
     ghost onward: { Self → W.Item → Self };
 
-    /// Whether it leaves each list of values with that sum as it is, and goes on after it as before it.
+    /// Returns true only if each list of values with the sum `sum` is left unchanged, and the state too.
     fn skips(&self, sum: W::Sum) -> bool
         ensures { IsTrue result → Leaves W.weaving W.is_item rewritten onward self.now sum };
 

@@ -1,17 +1,17 @@
-//! A node of a tree.
+//! Nodes of a tree.
 ghost use Rattle.std.specs.Prelude.{◌≡◌};
 
 use raw_arena::NodeId;
 
-/// One of the two sides of a node.
+/// A side of a node.
 #[derive(Clone, Copy, PartialEq, Eq, Debug)]
 pub enum Side {
     Left,
     Right,
 }
 
-/// What a node keeps: its item, a shift for its right subtree, and the sums of its left subtree and of its whole subtree.
-/// All are relative to the shifts on the path to the node.
+/// The data of a node: its item, a shift for its right subtree, the sum of its left subtree and the sum of its whole subtree. All are
+/// relative to the shifts on the path to the node.
 #[derive(Clone, Copy)]
 pub struct Data<X, S, B> {
     pub item: X,
@@ -20,7 +20,7 @@ pub struct Data<X, S, B> {
     pub whole: S,
 }
 
-/// A node: its links, its colour and its data.
+/// A node: links, colour and data.
 #[derive(Clone, Copy)]
 pub struct Slot<D> {
     pub parent: Option<NodeId>,
@@ -46,7 +46,7 @@ impl Side {
 impl<D: Copy> Slot<D> {
     ghost use Rattle.rb_rules.specs.Memory.{child, with_child, sided, side_by_name};
 
-    /// The node on that side.
+    /// Returns the child on the side `side`.
     pub fn child(&self, side: Side) -> Option<NodeId>
         ensures { result ≡ child side self.now }
     {
@@ -56,7 +56,7 @@ impl<D: Copy> Slot<D> {
         }
     }
 
-    /// The side of the child of that name.
+    /// Returns the side of the child `id`: Left if it is the left child, otherwise Right.
     pub fn side_of(&self, id: NodeId) -> Side
         ensures { result ≡ side_by_name self.now id }
     {
@@ -66,7 +66,7 @@ impl<D: Copy> Slot<D> {
         }
     }
 
-    /// The same with another node on that side.
+    /// Returns a copy of the node with another child on the side `side`.
     pub fn with_child(&self, side: Side, child: Option<NodeId>) -> Slot<D>
         ensures { result ≡ with_child side child self.now }
     {
@@ -82,7 +82,7 @@ impl<D: Copy> Slot<D> {
         }
     }
 
-    /// A node with `near` on that side and `far` on the other.
+    /// Makes a node with the child `near` on the side `side` and `far` on the other.
     pub fn sided(
         side: Side,
         parent: Option<NodeId>,

@@ -1,8 +1,8 @@
-//! What the nodes of a tree keep.
+//! Sums and shifts in the nodes of a tree.
 ghost use Rattle.std.specs.Prelude.{◌≡◌, Option, Some, IfSome, IsSome, IsTrue};
 ghost use Rattle.rb_rules.specs.Weaving.{Weaving, Lawful, HeldItem, HeldSum, HeldBy, Sums, Widens};
 
-/// Where a search goes from a node.
+/// The direction of a search at a node.
 #[derive(Clone, Copy, PartialEq, Eq, Debug)]
 pub enum Turn {
     Stop,
@@ -10,44 +10,45 @@ pub enum Turn {
     Right,
 }
 
-/// What a tree keeps of its items: a sum of each subtree, and shifts that move all items of a subtree at once.
+/// The sums and shifts of a tree: each node keeps the sum of its subtree, and a shift moves all items of a subtree at once.
 ///
-/// The ghost members are the meaning, on numbers without bounds; each function computes one of them, where what it
-/// computes is the relative form of a value.
+/// The ghost members give the meaning, on unbounded numbers. Each function computes one of them. Its result must be the relative form of
+/// a value.
 pub trait Weave {
     /// An item of the list.
     type Item: Copy;
 
-    /// What is known of some items in order.
+    /// A sum of consecutive items.
     type Sum: Copy;
 
-    /// An amount by which items move.
+    /// A shift: an amount by which items move.
     type By: Copy;
 
-    /// What a search looks for.
+    /// A search key.
     type Key: Copy;
 
     ghost weaving: { Weaving Self.Item Self.Sum Self.By };
 
-    /// Which items are values.
+    /// The items that are values.
     ghost is_item: { Self.Item → Type 0 };
 
-    /// Which sums are values. The parts of a value are values.
+    /// The sums that are values. The parts of such a sum are values too.
     ghost is_value: { Self.Sum → Type 0 };
 
-    /// What every sum of items that are values meets.
+    /// A property of every sum of items that are values.
     ghost is_sum: { Self.Sum → Type 0 };
 
-    /// Which shifts a path may have.
+    /// The shifts that a path may have.
     ghost is_near: { Self.By → Type 0 };
 
-    /// Which shifts lie within a reach: a reach, a shift.
+    /// `within reach by`: the shift `by` lies within the reach `reach`.
     ghost within: { Self.By → Self.By → Type 0 };
 
-    /// A reach within which lie the shifts within one reach, and the same moved by a shift, unless it is too great.
+    /// `widened reach by`: a reach that contains the shifts within `reach`, both unchanged and moved by `by`; None if it would be too
+    /// great.
     ghost widened: { Self.By → Self.By → Option Self.By };
 
-    /// Where a search for a key goes, by the sum of the items before an item and by that item.
+    /// The direction of a search for a key at an item, from the sum of the items before it and the item.
     ghost use Rattle.rb_rules.specs.declared.weave.Turn.{Turn};
 
     ghost turn: { Self.Key → Self.Sum → Self.Item → Turn };
@@ -62,14 +63,14 @@ pub trait Weave {
         requires { HeldSum weaving is_near is_sum is_value (weaving.join first second) }
         ensures { result ≡ weaving.join first second };
 
-    /// Whether two sums are the same. Where it tells so, a walk up ends.
+    /// Returns true only if the sums are equal. If a new item leaves its node's sum equal, the sums above it are not recomputed.
     fn same(first: Self::Sum, second: Self::Sum) -> bool
         ensures { IsTrue result → first ≡ second };
 
     fn still() -> Self::By
         ensures { result ≡ weaving.still };
 
-    /// The only shift that there is, where items never move: a path's shift then takes no walk. None where they may move.
+    /// Returns the only shift if items never move, so that the shift of a path needs no walk; None if items may move.
     fn only_shift() -> Option<Self::By>
         ensures { IfSome result (λ only. (by : Self.By) → by ≡ only) };
 
@@ -107,11 +108,11 @@ pub trait Weave {
 
     ghost widens: { Widens weaving within widened };
 
-    /// A shift that takes one value to another is itself no reach too great.
+    /// A shift that takes a value to a value is not too great: it has a reach of its own.
     ghost fits: { (by : Self.By) (x : Self.Item) → is_item x → is_item (weaving.shift by x) → IsSome (widened weaving.still by) };
 
     ghost parts: { (a b : Self.Sum) → is_value (weaving.join a b) → is_value a × is_value b };
 
-    /// What is left of a value without a part in its middle is a value.
+    /// A sum that is a value is still one without a part in its middle.
     ghost thins: { (a b c : Self.Sum) → is_value (weaving.join a (weaving.join b c)) → is_value (weaving.join a c) };
 }

@@ -116,7 +116,7 @@ drop_step n u false joined false after begins later is = behind (lines_of after)
     behind [] ends later is = absurd ends
     behind (line ∷ lines) ends later is = later (omega arith)
 
--- behind its content stands its break
+-- after its content a line has its break
 pub first_line-drop : (n : ℕ) (x : List ℕ) → n ≡ length (first_line x).content
     → first_line (drop n x) ≡ record { content = []; break = (first_line x).break }
 first_line-drop zero x is = no_content (first_line x) (sym is)
@@ -157,7 +157,7 @@ lines_behind [] some = absurd (omega arith)
 lines_behind (u ∷ after) some =
     behind_step u (u == carriage_return) (begins_with line_feed after) (u == line_feed) after refl (lines_behind after) (lines_of (u ∷ after)) refl some
 
--- a line that ends with nothing is the last
+-- a line without a break is the last
 pub last_line : (x : List ℕ) → length (first_line x).break ≡ 0 → lines_of x ≡ first_line x ∷ []
 last_line x none = alone (lines_of x) (lines_of-ends x) none
   where

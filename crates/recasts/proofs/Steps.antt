@@ -13,7 +13,7 @@ use Rattle.recasts.proofs.FirstLines.{first_line-drop, lines_behind, last_line, 
 abbrev pub line_from : List ℕ → ℕ → Line
 line_from text start = first_line (drop start text)
 
--- behind its content stands its break
+-- after its content a line has its break
 pub behind_content : (text : List ℕ) (start content : ℕ) → content ≡ length (line_from text start).content
     → line_from text (start + content) ≡ record { content = []; break = (line_from text start).break }
 behind_content text start content is =
@@ -22,7 +22,7 @@ behind_content text start content is =
 pub line_from-within : (text : List ℕ) (start : ℕ) → start ≤ length text → start + line_length (line_from text start) ≤ length text
 line_from-within text start within = omega (arith, within, first_line-within (drop start text), length-drop start text)
 
--- the first lines of both texts have as many units, and both have a break or none has
+-- the contents of both first lines have the same length, and both lines have a break or neither has
 first_contents : (before after : List Line) → EndAsLines before → EndAsLines after → contents before ≡ contents after
     → length (first_of before).content ≡ length (first_of after).content
 first_contents [] after ends ends_after same = absurd ends
@@ -68,7 +68,7 @@ module _ (x y : List ℕ) (same : HaveSameContents x y) where
       alone [] ends = absurd ends
       alone (next ∷ after) ends = refl
 
--- the content of a line is as long in the other text
+-- the content of a line has the same length in the other text
 pub content_after : (from to : List ℕ) (old new content : ℕ) → HaveSameContents (drop old from) (drop new to)
     → content ≡ length (line_from from old).content → content ≡ length (line_from to new).content
 content_after from to old new content same is = is ∙ same_first (drop old from) (drop new to) same

@@ -6,6 +6,6 @@ abbrev pub first_of : List Line → Line
 first_of [] = record { content = []; break = [] }
 first_of (line ∷ lines) = line
 
--- each text has one
+-- the first line of a text; each text has one
 abbrev pub first_line : List ℕ → Line
 first_line x = first_of (lines_of x)

@@ -1,5 +1,5 @@
-//! A change of a text's line endings to another kind, and the way back: both texts, and how the lines move between them, so that
-//! what stands at places of the one can go to the other.
+//! A change of a text's line endings to another kind, and back: both texts, and how the lines move between them, so that decorations can be
+//! carried from one to the other.
 #![tactic(auto)]
 
 mod lines;

@@ -1,4 +1,4 @@
-//! How the lines of a text move where each keeps its content.
+//! The moves of the lines between two texts with the same line contents.
 
 ghost use Rattle.std.specs.Prelude.{◌≡◌, ◌+◌, ◌≤◌, [], IfOk, drop, length, map};
 ghost use Rattle.decoration_rules.specs.LineMoves.{line_moves, turned, HaveSameContents};
@@ -8,7 +8,7 @@ use decoration_rules::LineMove;
 use std::alloc::{AllocError, Global};
 use unit_text::{CARRIAGE_RETURN, LINE_FEED};
 
-/// How the lines move from the one text to the other, in one pass over both.
+/// Returns the moves of the lines from one text to the other, in one pass over both.
 pub(crate) fn line_moves(
     alloc: Global,
     from: &[u16],
@@ -37,7 +37,7 @@ pub(crate) fn line_moves(
     }
 }
 
-// How many units the line has that starts there, without its line ending.
+// Returns the number of units of the line that starts at `start`, without its line ending.
 fn content_len(units: &[u16], start: usize) -> usize
     requires { start ≤ length units.now }
     ensures content { result ≡ length (first_line (drop start units.now)).content }
@@ -50,7 +50,7 @@ fn content_len(units: &[u16], start: usize) -> usize
     end.unwrap_or(rest.len())
 }
 
-// How many units the line ending has that starts there; 0 at the end of the text.
+// Returns the number of units of the line ending at `start`; 0 at the end of the text.
 fn ending_len(units: &[u16], start: usize) -> usize
     requires within { start ≤ length units.now }
     requires empty { (first_line (drop start units.now)).content ≡ [] }
@@ -65,7 +65,7 @@ fn ending_len(units: &[u16], start: usize) -> usize
     }
 }
 
-/// The same lines on their way back.
+/// Returns the moves in the opposite direction.
 pub(crate) fn turned(alloc: Global, moves: &[LineMove]) -> Result<Vec<LineMove>, AllocError>
     ensures { IfOk result (λ back. back.items ≡ map turned moves.now) }
 {

@@ -1,4 +1,4 @@
-//! The recast.
+//! A text with line endings of two kinds.
 
 ghost use Rattle.std.specs.Prelude.{◌≡◌, ◌<◌, ◌≤◌, Err, IfOk, length};
 ghost use Rattle.unit_text.specs.Kinds.{normalized, IsOfKind};
@@ -35,7 +35,7 @@ impl From<AllocError> for RecastError {
     }
 }
 
-/// A text, and the same text with line endings of another kind, with what takes decorations from the one to the other.
+/// A text, and the same text with line endings of another kind, with the moves of the lines in both directions.
 #[derive(Drop)]
 pub struct Recast {
     before: Side,
@@ -53,8 +53,8 @@ impl Model for Recast {
 }
 
 impl Recast {
-    /// The recast of the text to the kind. It refuses with Limit where the new text would have more than
-    /// [`MOST_TEXT_UNITS`] units.
+    /// Returns the recast of the text to the kind. Fails with `Limit` if the new text would have more than [`MOST_TEXT_UNITS`] units, and
+    /// with `Memory` if memory is short.
     pub fn of<F: Flat>(alloc: Global, text: &F, kind: Kind) -> Result<Recast, RecastError>
         requires fits { length (F.units text.now) ≤ MOST_TEXT_UNITS }
         requires endings { IsOfKind (F.kind text.now) (F.units text.now) }
@@ -81,7 +81,7 @@ impl Recast {
         })
     }
 
-    /// The text as it was, and how the lines move back to it.
+    /// Returns the old text, and the moves of the lines back to it.
     pub fn before(&self) -> &Side
         ensures side { result.now ≡ record {
           units = self.now.before;
@@ -97,7 +97,7 @@ impl Recast {
         &self.before
     }
 
-    /// The text with the other line endings, and how the lines move to it.
+    /// Returns the text with the new line endings, and the moves of the lines to it.
     pub fn after(&self) -> &Side
         ensures side { result.now ≡ record {
           units = self.now.after;
@@ -114,7 +114,7 @@ impl Recast {
     }
 }
 
-/// The units of the whole text.
+/// Copies the units of the whole text.
 fn copied<F: Flat>(alloc: Global, text: &F) -> Result<Vec<u16>, AllocError>
     ensures { IfOk result (λ copy. copy.items ≡ F.units text.now) }
 {
@@ -123,7 +123,7 @@ fn copied<F: Flat>(alloc: Global, text: &F) -> Result<Vec<u16>, AllocError>
     Ok(copy)
 }
 
-/// The units with the line endings of the kind.
+/// Returns a copy of the units with the line endings of the kind.
 fn normalized(alloc: Global, units: &[u16], kind: Kind) -> Result<Vec<u16>, AllocError>
     ensures { IfOk result (λ others. others.items ≡ normalized kind units.now) }
 {

@@ -6,7 +6,7 @@ use decoration_rules::LineMove;
 use std::marker::Model;
 use unit_text::{Kind, Units};
 
-/// One of the two texts of a recast, with how the lines move to it from the other.
+/// One of the two texts of a recast, with the moves of the lines to it from the other.
 #[derive(Drop)]
 pub struct Side {
     units: Units,
@@ -33,21 +33,21 @@ impl Side {
         }
     }
 
-    /// The text in UTF-16 code units.
+    /// Returns the text in UTF-16 code units.
     pub fn units(&self) -> &[u16]
         ensures { result.now ≡ self.now.units }
     {
         self.units.as_slice()
     }
 
-    /// The kind of its line endings.
+    /// Returns the kind of its line endings.
     pub fn kind(&self) -> Kind
         ensures { result ≡ self.now.kind }
     {
         self.kind
     }
 
-    /// How each of its lines comes to it from the other text, in their order. Offsets and lengths count units.
+    /// Returns the move of each of its lines from the other text, in order. Offsets and lengths count units.
     pub fn moves(&self) -> &[LineMove]
         ensures { result.now ≡ self.now.moves }
     {

@@ -1,4 +1,4 @@
--- What is taken of an old text stands in the text of now, as far as its lines are kept.
+-- Parts taken from an old text are in the current text, as far as its lines are kept.
 use Rattle.std.proofs.Common.{◌≡◌, ℕ, zero, suc, ◌-◌, ◌<◌, ◌≤◌, List, [], ◌∷◌, refl, ap, sym, ◌∙◌, subst, arith}
 use Rattle.bracket_rules.specs.declared.Token.{Token}
 use Rattle.bracket_rules.specs.Rows.{Row, row}
@@ -20,7 +20,7 @@ HasRow-alike [] b g h = elim h [ ]
 HasRow-alike (x ∷ a) [] g h = elim g [ ]
 HasRow-alike (x ∷ a) (y ∷ b) g h = tt
 
--- what is left of the text of now behind rows that were taken
+-- the rest of the current text after the taken rows
 pub record LeftAfter (n : ℕ) (rows rest now : List Row) : Type 0 where
   pub left : List Row
   pub spells : now ≡ glue rows left
@@ -31,7 +31,7 @@ no_brackets : (ts : List Token) → AreBefore 0 ts → ts ≡ []
 no_brackets [] h = refl
 no_brackets (t ∷ ts) h = absurd (let none : t.at < 0 = h.0 in omega arith)
 
--- the last row, which no column of it touches
+-- the last row, if it has no columns
 last_empty : (r : Row) → AreBefore r.columns r.brackets → r.columns ≡ 0 → r ≡ empty_row
 last_empty r h e =
     let none : r.brackets ≡ [] = no_brackets r.brackets (subst (λ (n : ℕ). AreBefore n r.brackets) e h) in
@@ -62,8 +62,8 @@ touched-suc : (lines columns : ℕ) → lines_touched (suc lines) columns ≡ su
 touched-suc lines zero = refl
 touched-suc lines (suc columns) = refl
 
--- Rows at the front of an old text stand at the front of the text of now too, where each line that they touch is alike,
--- and what is left is alike as far as the lines were.
+-- The first rows of an old text are also the first rows of the current text if each line that they touch is alike, and
+-- the rest is alike as far as the lines were.
 pub taken_again : (n : ℕ) (rows rest now : List Row) → HasRow rows → IsBounded rows → HasRow rest → HasRow now
     → touched (rows_length rows) ≤ n → Alike n (glue rows rest) now → LeftAfter (n - (rows_length rows).lines) rows rest now
 taken_again n [] rest now f b h k t a = elim f [ ]

@@ -1,4 +1,4 @@
--- Rows agree with an old text after an edit too, under the marks that the edit leaves.
+-- Rows agree with an old text also after an edit, under the marks that the edit leaves.
 use Rattle.std.proofs.Common.{◌≡◌, ℕ, zero, suc, ◌+◌, ◌-◌, ◌<◌, ◌≤◌, ◌⊎◌, inl, inr, Bool, true, false, List, [], ◌∷◌, ◌++◌, length, take, drop, refl, ap, sym, ◌∙◌, subst, append_assoc, arith}
 use Rattle.std.specs.Prelude.{slice_index_or, replicate}
 use Rattle.std.proofs.lemmas.Bool.{cases_lt}
@@ -16,7 +16,7 @@ use Rattle.reuse_rules.specs.Edits.{IsEdited}
 
 -- ---- rows of lines
 
--- a line that is not the last has the same row, whatever follows
+-- the row of a line that is not the last does not depend on what follows
 alike_before : (old : List Row) (x y y' : Row) (lines lines' : List Row)
     → Alike 1 old (broken (x ∷ y ∷ lines)) → Alike 1 old (broken (x ∷ y' ∷ lines'))
 alike_before [] x y y' lines lines' h = elim h [ ]
@@ -60,7 +60,7 @@ begins_edited (suc a) n m [] h k b = absurd (omega arith)
 begins_edited (suc a) n m (New ∷ marks) h k b = tt
 begins_edited (suc a) n m (Kept i ∷ marks) h k b = b
 
--- a line before the edited ones is the same one, and more follows in both texts
+-- a line before the edited ones is unchanged, and more lines follow in both texts
 alike_in_front : (old : List Row) (a j n m : ℕ) (before after : List Row) → j < a → 1 ≤ n → 1 ≤ m
     → a + n ≤ length before → a + m ≤ length after → take a after ≡ take a before
     → Alike 1 old (broken (drop j before)) → Alike 1 old (broken (drop j after))
@@ -106,7 +106,7 @@ module _ (old : List Row) (first n m : ℕ) (marks : List Mark) (before after : 
       let room = inside in
       ap length parts ∙ omega arith
 
-  -- rows of lines that are dropped as far
+  -- rows of lines whose rests are equal
   same_rows : (old' : List Row) (j k : ℕ) (xs ys : List Row) → drop j xs ≡ drop k ys
       → Alike 1 old' (drop k (broken ys)) → Alike 1 old' (drop j (broken xs))
   same_rows old' j k xs ys e h =
@@ -239,7 +239,7 @@ kept_clean n j i e =
     clash_of : false ≡ true → ⊥
     clash_of c = cc
 
--- a text agrees with itself where every line is kept
+-- a text agrees with itself if every line is kept
 pub Agrees-clean : (rows : List Row) → Agrees rows (clean_marks (length rows)) rows
 unfolding number_of
 Agrees-clean rows = record {

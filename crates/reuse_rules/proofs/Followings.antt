@@ -96,7 +96,7 @@ rows_count [] h = elim h [ ]
 rows_count (r ∷ []) h = refl
 rows_count (r ∷ x ∷ rows) h = ap suc (rows_count (x ∷ rows) tt)
 
--- where a line of now is kept, a reader at its start follows the old text there
+-- if a current line is kept, a reader at its start follows the old text there
 pub Follows-line : (old : Tree) (marks : List Mark) (now : List Row) (p : Length) (ahead : List Row) (line : ℕ) → IsTree old
     → Agrees (tree_rows old) marks now → p.columns ≡ 0 → Reached now p ahead → IsKeptAs marks p line → Follows old marks p ahead line
 Follows-line old marks now p ahead line t a c r e =
@@ -122,7 +122,7 @@ Follows-line old marks now p ahead line t a c r e =
 
 -- ---- what stands in the old text is taken
 
--- Behind what was taken: what is left, and whether the reader goes on in the run or stands at the start of a line.
+-- After a taken part: what is left, and whether the reader continues in the run or is at the start of a line.
 pub record Took (old : Tree) (marks : List Mark) (now : List Row) (p : Length) (ahead : List Row) (line : ℕ) (rows : List Row) : Type 0 where
   pub left : List Row
   pub spells : ahead ≡ glue rows left
@@ -166,7 +166,7 @@ took old marks now p ahead line rows f b r w t g e =
       new_line = λ h. columns_zero p l (omega arith) (at_line_end l.lines l.columns run t h);
     }
 
--- a node that may be taken stands in the text of now
+-- a node that may be taken is in the current text
 pub node_taken : (old : Tree) (marks : List Mark) (now : List Row) (p : Length) (ahead : List Row) (line : ℕ) (kinds level : ℕ) (n : Tree)
     → IsTree old → Reached now p ahead → Follows old marks p ahead line → HasNode no_length old (length_of line p.columns) n
     → MayBeTaken (kept_run (drop p.lines marks)) kinds level n → Took old marks now p ahead line (tree_rows n)
@@ -177,7 +177,7 @@ node_taken old marks now p ahead line kinds level n t r w h m =
     (subst (λ (l : Length). touched l ≤ kept_run (drop p.lines marks)) long m.within) (node_begins old q n t h)
     (subst (λ (l : Length). IsEdge no_length old (length_plus q l)) long (edge_after_node no_length old q n h))
 
--- so does an old bracket
+-- an old bracket is in the current text
 pub bracket_taken : (old : Tree) (marks : List Mark) (now : List Row) (p : Length) (ahead : List Row) (line : ℕ) (b : Bracket)
     → IsTree old → Reached now p ahead → Follows old marks p ahead line → HasBracket no_length old b → b.place ≡ length_of line p.columns → 0 < b.len
     → Took old marks now p ahead line (bracket_row b.kind b.len b.opening)
@@ -198,7 +198,7 @@ only_empty (suc k) [] h a = elim a [ ]
 only_empty (suc k) (s ∷ []) h a = ap (λ (x : Row). x ∷ []) (sym a.0)
 only_empty (suc k) (s ∷ x ∷ ahead) h a = elim a.1.0 [ ]
 
--- where the old tree ends, the text of now does
+-- at the end of the old tree the current text ends
 pub ends_alike : (old : Tree) (marks : List Mark) (p : Length) (ahead : List Row) (line : ℕ) → IsTree old → Follows old marks p ahead line
     → length_of line p.columns ≡ tree_length old → ahead ≡ empty_row ∷ []
 ends_alike old marks p ahead line t w e =

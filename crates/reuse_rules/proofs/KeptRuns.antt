@@ -73,7 +73,8 @@ alike_steps old now (suc k) i j each =
     (subst (λ (x : List Row). Alike k x (drop 1 (drop j now))) (sym (drop_more i old))
     (subst (λ (x : List Row). Alike k (drop (suc i) old) x) (sym (drop_more j now)) (alike_steps old now k (suc i) (suc j) one_later)))
 
--- where line j of now is kept as old line i, the rows from there on are alike as far as lines are kept one after another
+-- if the current line j is kept as the old line i, the rows from there on are alike as far as the kept numbers are
+-- consecutive
 pub kept_run_alike : (old : List Row) (marks : List Mark) (now : List Row) (i j : ℕ) → Agrees old marks now → mark_at (j + 1) marks ≡ Kept (i + 1)
     → Alike (kept_run (drop j marks)) (drop i old) (drop j now)
 kept_run_alike old marks now i j h e = alike_steps old now (kept_run (drop j marks)) i j each

@@ -8,7 +8,7 @@ use Rattle.bracket_tree_rules.specs.Places.{IsHere, HasNode}
 use Rattle.bracket_tree_rules.specs.Told.{Fits}
 use Rattle.reuse_rules.specs.Prices.{all_paired}
 
--- the tree has no unclosed bracket, none beyond the most that may be open, and no unexpected one
+-- the tree has no unclosed bracket, none beyond the limit of open brackets, and no unexpected one
 record Lacks (t : Tree) : Type 0 where
   closed : is_closed t ≡ true
   uncapped : is_capped t ≡ false
@@ -75,7 +75,7 @@ paired_node p (three a b c) q n (inr (inr (inr in_c))) e =
 here_nested : (p : Length) (t : Tree) (q : Length) (n : Tree) → IsHere p t q n → nesting n ≤ nesting t
 here_nested p t q n h = let same : nesting n ≡ nesting t = ap nesting h.node in omega arith
 
--- no node is nested deeper than the tree that it stands in
+-- no node is nested deeper than the tree that contains it
 pub nesting_node : (p : Length) (t : Tree) (q : Length) (n : Tree) → HasNode p t q n → nesting n ≤ nesting t
 nesting_node p (text l) q n here = here_nested p (text l) q n here
 nesting_node p (pair k o i c) q n (inl here) = here_nested p (pair k o i c) q n here

@@ -1,4 +1,4 @@
--- How great the price of a way through a tree is at most: from its start on, or up to its end.
+-- Upper bounds of the price of a way through a tree: from its start on, or up to its end.
 use Rattle.std.proofs.Common.{◌≡◌, ℕ, zero, suc, ◌+◌, ◌*◌, ◌≤◌, Bool, true, false, ◌&&◌, ◌||◌, cond, Option, Some, None, refl, ap, sym, ◌∙◌, subst, arith, inl, inr}
 use Rattle.std.proofs.lemmas.Bool.{cases_Bool}
 use Rattle.text_lengths.specs.declared.Length.{Length}
@@ -48,7 +48,7 @@ closing_within c from to p (Some w) = of (is_before p from) (is_before p to)
     of false true = omega arith
     of false false = omega arith
 
--- where the parts of a list end, if the list ends at a place or before it
+-- the ends of the parts of a list that ends at a place or before it
 
 ends_of_two : (p to : Length) (a b : Tree) → IsUpTo (end_of p (two a b)) to → IsUpTo (end_of p a) to × IsUpTo (end_of (end_of p a) b) to
 ends_of_two p to a b e =
@@ -67,7 +67,7 @@ ends_of_three p to a b d e =
 
 -- ---- the bounds
 
--- what each pair on the way adds, where no list in it is higher than this
+-- the bound that each pair on the way adds, if no list in it is higher than `most`
 abbrev pub pair_bound : Costs → ℕ → ℕ
 pair_bound c most = times most (c.node + c.node) + (c.opening + c.closing)
 
@@ -85,7 +85,7 @@ pair_within c most from to p k o i w low inner =
     between_within from to p (end_of p (pair k o i w)) c.node _ (way_bound c most (pair k o i w)) (omega arith) (omega arith)
 
 module _ (c : Costs) (most : ℕ) where
-  -- a list is passed for two nodes at most and the way through one of its parts
+  -- the price of a list is at most that of two nodes and of the way through one of its parts
   list_within : (from to p : Length) (t part : Tree) (parts : ℕ) → height t ≡ suc (height part) → nesting part ≤ nesting t
       → parts ≤ c.node + c.node + way_bound c most part → between from to p (end_of p t) c.node parts ≤ way_bound c most t
   unfolding times
@@ -140,7 +140,7 @@ module _ (c : Costs) (most : ℕ) where
             list_within from to p (three a b d) a _ refl (omega arith) (omega arith)
       ]
 
-  -- up to the end of a tree, or behind it
+  -- up to the end of a tree, or to a place after it
   pub price_to_end : (from to p : Length) (t : Tree) → IsTree t → highest t ≤ most → IsUpTo (end_of p t) to → price c from to p t ≤ way_bound c most t
   price_to_end from to p (text l) h low e = between_within from to p (end_of p (text l)) c.node 0 (way_bound c most (text l)) (omega arith) (omega arith)
   price_to_end from to p (pair k o i w) h low e =
@@ -226,7 +226,7 @@ unfolding times
 times-is zero x = omega arith
 times-is (suc n) x = omega (arith, times-is n x)
 
--- where a list of so many steps down costs `lists`, and a pair `each`
+-- the bound if the way down through lists costs at most `lists`, and a pair `each`
 bound_by : (c : Costs) (t : Tree) (lists each : ℕ) → highest t * (c.node + c.node) ≡ lists → lists + (c.opening + c.closing) ≡ each
     → way_bound c (highest t) t ≤ c.node + (lists + nesting t * each)
 bound_by c t lists each e f =

@@ -16,7 +16,7 @@ use Rattle.reuse_rules.specs.Prices.{all_paired, Costs, between, closing_price, 
 
 -- ---- the order of places
 
--- place p does not stand behind place q
+-- place p is not after place q
 abbrev pub IsUpTo : Length → Length → Type 0
 IsUpTo p q = is_before q p ≡ false
 
@@ -66,7 +66,7 @@ here_up_to p t q n h =
     subst (λ (x : Length). IsUpTo (end_of x n) (end_of p t)) (sym h.place)
     (subst (λ (m : Tree). IsUpTo (end_of p m) (end_of p t)) (sym h.node) (not_before_itself (end_of p t)))
 
--- no node ends behind the tree that it stands in
+-- no node ends after the tree that contains it
 pub node_up_to : (p : Length) (t : Tree) (q : Length) (n : Tree) → HasNode p t q n → IsUpTo (end_of q n) (end_of p t)
 node_up_to p (text l) q n here = here_up_to p (text l) q n here
 node_up_to p (pair k o i c) q n (inl here) = here_up_to p (pair k o i c) q n here
@@ -98,7 +98,7 @@ closing_up_to ends k (Some w) b (inr h) = elim h [ ]
 opening_up_to : (p : Length) (k o : ℕ) (i : Tree) (c : Option ℕ) → IsUpTo (inside_start p o) (end_of p (pair k o i c))
 opening_up_to p k o i c = up_to_pair (inside_start p o) p k o i c (not_before_sum (inside_start p o) (tree_length i))
 
--- no bracket ends behind the tree that it stands in
+-- no bracket ends after the tree that contains it
 pub bracket_up_to : (p : Length) (t : Tree) (b : Bracket) → HasBracket p t b → IsUpTo (length_plus b.place (wide b.len)) (end_of p t)
 bracket_up_to p (text l) b h = elim h [ ]
 bracket_up_to p (pair k o i c) b (inl e) =
@@ -156,13 +156,14 @@ pub between_parts_to : (from to start end : Length) (whole parts : ℕ) → is_b
     → between from to start end whole parts ≡ parts
 between_parts_to from to start end whole parts e s f t = rw (e, s, f, t) refl
 
--- from an earlier place there is as much, where neither place stands behind the start
+-- the price from an earlier place is the same, if neither place is after the start
 between_from : (from next to start end : Length) (whole parts less : ℕ) → is_before start end ≡ true → IsUpTo from start → IsUpTo next start → less ≡ parts
     → between next to start end whole less ≡ between from to start end whole parts
 between_from from next to start end whole parts less long f n e =
     rw (up_to_before from start end f long, up_to_before next start end n long, f, n, e) refl
 
--- It falls where a part of it falls, if what lies between the places as a whole is all passed.
+-- The price falls by at least `k` if the price of a part does, provided that what lies between the places as a whole is
+-- all passed.
 between_falls : (from next to start end : Length) (k whole parts less : ℕ) → IsUpTo start from → is_before from next ≡ true → is_before from to ≡ true
     → IsUpTo next end → (IsUpTo from start → IsUpTo end to → IsUpTo end next × (k ≤ whole)) → less + k ≤ parts
     → between next to start end whole less + k ≤ between from to start end whole parts
@@ -222,7 +223,7 @@ closing_from : (c : Costs) (from next to p : Length) (w : Option ℕ) → IsUpTo
 closing_from c from next to p None f n = refl
 closing_from c from next to p (Some w) f n = rw (f, n) refl
 
--- the price is the same from each place that is not behind the start
+-- the price is the same from each place that is not after the start
 pub price_from : (c : Costs) (from next to p : Length) (t : Tree) → IsTree t → IsUpTo from p → IsUpTo next p → price c next to p t ≡ price c from to p t
 price_from c from next to p (text l) h f n =
     between_from from next to p (end_of p (text l)) c.node 0 0 (starts_before_end p (text l) h refl) f n refl
@@ -258,7 +259,7 @@ price_from c from next to p (three a b d) h f n =
 
 -- ---- a longest node
 
--- of the tree's nodes at place q which end at place `to` or before it, none ends behind this place
+-- no node of the tree at place q that ends at place `to` or before it ends after place `next`
 abbrev pub EndsLast : Length → Length → Length → Length → Tree → Type 0
 EndsLast to q next p t = (m : Tree) → HasNode p t q m → is_nothing m ≡ false → IsUpTo (end_of q m) to → IsUpTo (end_of q m) next
 

@@ -1,4 +1,4 @@
--- A reader that takes the longest node at each place, and a bracket where there is none, pays what the way costs.
+-- A reader that takes the longest node at each place, and a bracket if there is no node, pays the price of the way.
 use Rattle.std.proofs.Common.{◌≡◌, ℕ, zero, suc, ◌+◌, ◌-◌, ◌<◌, ◌≤◌, true, false, List, ◌∷◌, length, drop, drop-cons, refl, ap, sym, ◌∙◌, subst, arith, inl, inr}
 use Rattle.std.specs.Prelude.{slice_index_or}
 use Rattle.std.proofs.lemmas.Bool.{cases_lt}

@@ -1,4 +1,4 @@
--- The way through kept lines: within a run, behind it, and what it costs where the new lines are one run.
+-- The way through kept lines: within a run, after it, and its price if the new lines are one run.
 use Rattle.std.proofs.Common.{◌≡◌, ℕ, zero, suc, ◌+◌, ◌-◌, ◌<◌, ◌≤◌, eqb, List, [], ◌∷◌, drop, refl, ap, sym, ◌∙◌, subst, arith, inl, inr}
 use Rattle.std.proofs.lemmas.Bool.{cases_Bool, eqb-true, ne_eqb, eq-eqb}
 use Rattle.text_lengths.specs.Length.{length_of, no_length}
@@ -63,7 +63,7 @@ module _ (c : Costs) (old : Tree) where
       on : lines_price c old 0 (drop (numbered (suc i) marks) marks) ≤ runs_price c old (suc i) marks → lines_price c old 0 (drop (numbered i (Kept i ∷ marks)) (Kept i ∷ marks)) ≤ runs_price c old i (Kept i ∷ marks)
       on later = rw (eq-eqb i i refl) (omega (arith, later))
 
-  -- behind the last line of the run no more is left than the later runs
+  -- after the last line of the run only the later runs are left
   pub price_behind_run : (i : ℕ) (marks : List Mark) → lines_price c old 0 (drop (kept_run (Kept i ∷ marks)) (Kept i ∷ marks)) ≤ runs_price c old (suc i) marks
   price_behind_run i marks = behind (suc i) marks
 

@@ -1,7 +1,7 @@
--- Lines in place of others.
+-- Replacement of lines by others.
 use Rattle.std.specs.Prelude.{◌≡◌, ℕ, ◌+◌, ◌-◌, ◌≤◌, List, length, take, drop}
 
--- the lines from line `first` on, `old` of them, became `new` other ones, and the others stayed
+-- the `old` lines from line `first` on were replaced by `new` other lines; all other lines are unchanged
 pub record IsEdited {X : Type 0} (first old new : ℕ) (before after : List X) : Type 0 where
   pub first_is : 1 ≤ first
   pub some : 1 ≤ old

@@ -1,4 +1,4 @@
--- A reader that has come to a place of the text of now, and follows the old text there.
+-- A reader at a place of the current text, which follows the old text there.
 use Rattle.std.specs.Prelude.{◌≡◌, ℕ, List, drop}
 use Rattle.text_lengths.specs.declared.Length.{Length}
 use Rattle.text_lengths.specs.Length.{length_of, no_length}
@@ -11,7 +11,7 @@ use Rattle.mark_rules.specs.Marks.{kept_run}
 use Rattle.reuse_rules.specs.Agreement.{Alike}
 use Rattle.reuse_rules.specs.Reuse.{IsKeptAs}
 
--- at place p of these rows, those are ahead
+-- the rows `ahead` are what follows place p in the rows `now`
 pub record Reached (now : List Row) (p : Length) (ahead : List Row) : Type 0 where
   pub done : List Row
   pub spells : now ≡ glue done ahead
@@ -20,8 +20,8 @@ pub record Reached (now : List Row) (p : Length) (ahead : List Row) : Type 0 whe
   pub has_ahead : HasRow ahead
   pub bounded : IsBounded done
 
--- The line of place p is kept as this old line, what is ahead is what stands there in the old text, as far as lines are
--- kept, and something of the old tree starts there.
+-- The line of place p is kept as the old line `line`. The rows ahead are those of the old text there, as far as lines
+-- are kept, and place p is an edge of the old tree.
 pub record Follows (old : Tree) (marks : List Mark) (p : Length) (ahead : List Row) (line : ℕ) : Type 0 where
   pub kept : IsKeptAs marks p line
   pub alike : Alike (kept_run (drop p.lines marks)) (rows_from (length_of line p.columns) (tree_rows old)) ahead

@@ -1,4 +1,4 @@
--- What it costs to go from one place to another through a tree.
+-- The price of a way through a tree from one place to another.
 use Rattle.std.specs.Prelude.{◌≡◌, ℕ, ◌+◌, Bool, true, false, ◌&&◌, ◌||◌, if◌then◌else◌, Option, Some, None, refl}
 use Rattle.text_lengths.specs.declared.Length.{Length}
 use Rattle.text_lengths.specs.Length.{length_of, no_length, length_plus, is_before}
@@ -6,7 +6,7 @@ use Rattle.bracket_tree_rules.specs.Tree.{Tree, text, pair, stray, capped, nothi
 
 -- ---- trees of pairs
 
--- whether each bracket of the tree is one of a pair: none is unclosed, unexpected or beyond the most that may be open
+-- each bracket of the tree belongs to a pair: none is unclosed, unexpected or beyond the limit of open brackets
 abbrev pub all_paired : Tree → Bool
 all_paired (text l) = true
 all_paired (pair kind open_width inside close_width) = is_some_width close_width && all_paired inside
@@ -18,22 +18,23 @@ all_paired (three a b c) = all_paired a && (all_paired b && all_paired c)
 
 -- ---- prices
 
--- what is paid for a node that is taken, and for a bracket on its own
+-- the cost of a node taken as a whole, and of a single bracket
 pub record Costs : Type 0 where
   pub node : ℕ
   pub opening : ℕ
   pub closing : ℕ
 
--- each call that asks is one: for new lines, then for a node, and for a bracket where no node comes
+-- each call costs 1: the one that asks for new lines, then the one for a node, and the one for a bracket if no node is
+-- found
 abbrev pub calls : Costs
 calls = record { node = 2; opening = 3; closing = 3 }
 
--- one for each opening bracket that comes on its own
+-- 1 for each opening bracket taken as a single one
 abbrev pub openings : Costs
 openings = record { node = 0; opening = 1; closing = 0 }
 
--- What lies between place `from` and place `to` of a tree that starts at `start` and ends at `end`: nothing where it ends
--- before them or starts behind them, the whole where it lies between them, and else some of its parts.
+-- The price between places `from` and `to` of a tree that starts at `start` and ends at `end`: 0 if it ends at or
+-- before `from` or starts at or after `to`, `whole` if it lies between the two, and otherwise `parts`.
 abbrev pub between : Length → Length → Length → Length → ℕ → ℕ → ℕ
 between from to start end whole parts =
     if is_before from end && is_before start to
@@ -48,8 +49,8 @@ closing_price costs from to p None = 0
 closing_price costs from to p (Some width) =
     if is_before p from then 0 else (if is_before p to then costs.closing else 0)
 
--- The nodes of a tree that starts at place p which lie between two places and within no other such node, and the brackets
--- between them of the pairs which do not.
+-- The price of a tree that starts at place p, between two places: of its nodes that lie between the places and are not
+-- part of another such node, and of the brackets between the places of the pairs that do not lie between them.
 abbrev pub price : Costs → Length → Length → Length → Tree → ℕ
 price costs from to p (text l) = between from to p (length_plus p l) costs.node 0
 price costs from to p (pair kind open_width inside close_width) =

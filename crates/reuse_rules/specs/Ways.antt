@@ -1,4 +1,4 @@
--- What it costs to go through the kept lines of a text.
+-- The price of a way through the kept lines of a text.
 use Rattle.std.specs.Prelude.{◌≡◌, ℕ, suc, ◌+◌, ◌-◌, ◌==◌, if◌then◌else◌, List, [], ◌∷◌, drop, ⊤, refl}
 use Rattle.text_lengths.specs.declared.Length.{Length}
 use Rattle.text_lengths.specs.Length.{length_of, no_length}
@@ -8,31 +8,31 @@ use Rattle.mark_rules.specs.declared.Mark.TheVariants.{Kept, New}
 use Rattle.mark_rules.specs.Marks.{kept_run, clean_marks, edited_marks}
 use Rattle.reuse_rules.specs.Prices.{Costs, calls, price, two_lines}
 
--- Through the old tree from a column of the line that the first of these marks is kept from, to the end of the run of
--- lines that are kept one after another.
+-- The price of the way through the old tree from a column of the line that the first of these marks is kept from, to
+-- the end of the run of lines with consecutive numbers.
 abbrev pub run_price : Costs → Tree → ℕ → ℕ → List Mark → ℕ
 run_price costs old line column marks = price costs (length_of line column) (length_of (line + kept_run marks) 0) no_length old
 
--- through each run of kept lines, where a line that is kept as line `next` goes on in the run before it
+-- the price of the ways through each run of kept lines; a line that is kept as line `next` continues the run before it
 abbrev pub runs_price : Costs → Tree → ℕ → List Mark → ℕ
 runs_price costs old next [] = 0
 runs_price costs old next (New ∷ marks) = runs_price costs old 0 marks
 runs_price costs old next (Kept i ∷ marks) =
     (if i == next then 0 else run_price costs old (i - 1) 0 (Kept i ∷ marks)) + runs_price costs old (suc i) marks
 
--- from a column of the first of these lines on
+-- the price from a column of the first of these lines on
 abbrev pub lines_price : Costs → Tree → ℕ → List Mark → ℕ
 lines_price costs old column [] = 0
 lines_price costs old column (New ∷ marks) = runs_price costs old 0 marks
 lines_price costs old column (Kept i ∷ marks) = run_price costs old (i - 1) column (Kept i ∷ marks) + runs_price costs old (suc i) marks
 
--- from a place of the text of now on
+-- the price from a place of the current text on
 abbrev pub way_price : Costs → Tree → List Mark → Length → ℕ
 way_price costs old marks p = lines_price costs old p.columns (drop p.lines marks)
 
 -- ---- lines that are asked for
 
--- these lines are adjacent
+-- the line numbers are consecutive
 abbrev pub IsOneRun : List ℕ → Type 0
 IsOneRun [] = ⊤
 IsOneRun (n ∷ []) = ⊤

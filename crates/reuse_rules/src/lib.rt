@@ -1,3 +1,3 @@
-//! When a tree of an earlier text agrees with the lines of the text of now, and which of its nodes may be
-//! taken over: definitions and their laws alone.
+//! Definitions of when a tree of an earlier text agrees with the lines of the current text, and of which of its nodes
+//! may be reused, with their laws.
 #![tactic(auto)]

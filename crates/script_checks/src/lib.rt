@@ -1,4 +1,4 @@
-//! Runs of the program over memory, for the tests of whole scripts.
+//! Runs of the program in memory, for the tests of whole scripts.
 #![tactic(auto)]
 
 mod rows;

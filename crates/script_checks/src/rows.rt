@@ -1,9 +1,9 @@
-//! Scripts that are written down with their replies, or put together.
+//! Scripts that are written out with their replies, or assembled.
 
 use std::alloc::{AllocError, Global};
 
-/// The lines of the rows, and the replies to them. A row is a line of a script, ` => ` and the reply; without the arrow
-/// it expects an empty reply, which no run gives.
+/// Returns the lines of the rows, and the replies to them. A row is a line of a script, ` => ` and the reply; without
+/// the arrow it expects an empty reply, which no run gives.
 pub fn script_and_replies(
     alloc: Global,
     first_rows: &str,
@@ -25,7 +25,7 @@ fn push_row(row: &str, script: &mut String, replies: &mut String) -> Result<(), 
     replies.push('\n')
 }
 
-/// Adds the part so many times.
+/// Appends the part `times` times.
 pub fn push_times(part: &str, times: u64, line: &mut String) -> Result<(), AllocError> {
     for _ in 0..times {
         line.push_str(part)?;

@@ -5,39 +5,39 @@ use script_runner::{Served, run_words, serve};
 use sessions::Session;
 use std::alloc::{AllocError, Global};
 
-/// The most bytes that are kept of what the program writes.
+/// The most bytes kept of the program's output.
 const MOST_WRITTEN: usize = 0x4_0000;
 
-/// How the program gets its script.
+/// How the program reads its script.
 #[derive(Clone, Copy)]
 pub struct Reads {
-    /// The most bytes that a read gives, 1 where it is 0.
+    /// The most bytes that a read gives; 0 counts as 1.
     pub each: usize,
-    /// The read that fails, where one does. The first is read 1.
+    /// The number of the read that fails, counted from 1; None if no read fails.
     pub failing: Option<u64>,
 }
 
-/// How what it writes is taken.
+/// How the program's output is taken.
 #[derive(Clone, Copy)]
 pub struct Writes<'a> {
-    /// The most bytes that a write takes, 1 where it is 0.
+    /// The most bytes that a write takes; 0 counts as 1.
     pub each: usize,
     pub faults: &'a [Fault],
 }
 
-/// Reads of 64 KiB, without a fault.
+/// Reads of up to 64 KiB, without a fault.
 pub const ALL_READ: Reads = Reads {
     each: 0x1_0000,
     failing: None,
 };
 
-/// Writes of 64 KiB, without a fault.
+/// Writes of up to 64 KiB, without a fault.
 pub const ALL_WRITTEN: Writes<'static> = Writes {
     each: 0x1_0000,
     faults: &[],
 };
 
-/// Runs the program with the words of the line.
+/// Runs the program with the words of the line as arguments.
 pub fn run_line(
     alloc: Global,
     line: &str,
@@ -52,7 +52,7 @@ pub fn run_line(
     Ok(run_words(alloc, words.as_slice(), src, out, err))
 }
 
-/// Serves a new session's script, by reads into eight bytes, within the budget.
+/// Serves the script in a new session, with reads into a buffer of eight bytes, within the budget.
 pub fn served(
     alloc: Global,
     src: &mut MemSource,
@@ -64,8 +64,8 @@ pub fn served(
     Ok(serve(&mut session, src, out, &mut buf, most))
 }
 
-/// Runs the word `run` over the script, which should end with that status, have written that and complain of nothing. Tells
-/// in words how it went otherwise.
+/// Runs the script with the word `run` and compares: the status and the output must be the expected ones, and there
+/// must be no complaint. Returns a description of the difference, if there is one.
 pub fn difference(
     alloc: Global,
     name: &str,
@@ -90,7 +90,7 @@ pub fn difference(
     Ok(Some(told))
 }
 
-/// The same where no read and no write fails or comes short.
+/// The same with reads and writes that never fail or come short.
 pub fn plain_difference(
     alloc: Global,
     name: &str,

@@ -15,7 +15,7 @@ pub keys_among-members_view : (names : List (List ℕ)) (es : List (String Globa
 keys_among-members_view names [] = refl
 keys_among-members_view names (e ∷ es) = ap (λ b. is_name names (string_bytes e.0) && b) (keys_among-members_view names es)
 
--- what reads two items reads no other count of them
+-- a reading of two items gives None for any other number of items
 pub two_of_other : {X : Type 0} (reads : Data → Data → Option X) (vs : List Value) → length vs ≢ 2 → two_of reads (items_view vs) ≡ None
 two_of_other reads [] other = refl
 two_of_other reads (v ∷ []) other = refl
@@ -71,7 +71,7 @@ pub all_of_more : {X : Type 0} (reads : Data → Option X) (vs : List Value) (i 
     → all_of reads (items_view (take (i + 1) vs)) ≡ Some (xs ++ x ∷ [])
 all_of_more reads vs i v x xs inside at next read = more_read reads vs i v x xs inside (ap (λ w. reads (view w)) (sym at) ∙ next) read
 
--- an item that is not read refuses them all
+-- if one item is invalid, so is the whole list
 pub all_of_refused : {X : Type 0} (reads : Data → Option X) (vs : List Value) (i : ℕ) (v : Value) → i < length vs
     → v ≡ get_or vs i v → reads (view v) ≡ None → all_of reads (items_view vs) ≡ None
 all_of_refused reads vs i v inside at none = one_refused reads vs i v inside (ap (λ w. reads (view w)) (sym at) ∙ none)

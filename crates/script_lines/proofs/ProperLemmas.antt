@@ -1,4 +1,4 @@
--- What the requests have that lines spell.
+-- Properties of the requests parsed from lines.
 use Rattle.std.proofs.Common.{◌≡◌, ℕ, zero, suc, ◌<◌, ◌≤◌, Bool, true, false, if◌then◌else◌, List, [], ◌∷◌, length, Option, Some, None, IfSome, codes, subst, arith}
 use Rattle.std.specs.Bool.{⊤}
 use Rattle.std.specs.List.{All}
@@ -39,7 +39,7 @@ any None = tt
 any (Some x) = tt
 
 module _ {X : Type 0} (reads : Data → Option X) (Q : X → Type 0) (each : (d : Data) → IfSome (reads d) Q) where
-  -- so many or more, and it holds of each
+  -- at least `least` items, and Q holds for each
   record AreSome (least : ℕ) (xs : List X) : Type 0 where
     pub many : least ≤ length xs
     pub all : All Q xs
@@ -107,7 +107,7 @@ is_proper d = by_then Any IsProper _ (string_at (codes "cmd") d) (any _) (λ nam
     named true = joined
     named false = alone
 
--- a line spells no other requests
+-- every request parsed from a line is proper
 pub spelled : (line : List ℕ) (request : Request) → request_of line ≡ Some request → IsProper request
 unfolding request_of
 spelled line request is =

@@ -23,15 +23,15 @@ abbrev pub optional_pair_of : Option Data → Option (Option (List ℕ × List �
 optional_pair_of None = Some None
 optional_pair_of (Some d) = option_map Some (pair_in d)
 
--- two texts, or none where the field is absent
+-- two texts; no pair if the field is missing
 abbrev pub optional_pair_at : List ℕ → Data → Option (Option (List ℕ × List ℕ))
 optional_pair_at key d = optional_pair_of (get key d)
 
--- the pairs, where they are a table
+-- the pairs, if they are a valid table
 abbrev pub table_of : Table → Option Table
 table_of pairs = if is_table pairs then Some pairs else None
 
--- an array of pairs that are a table
+-- an array of pairs that are a valid table
 abbrev pub table_in : Data → Option Table
 table_in d = option_and_then table_of (list_in pair_in d)
 
@@ -39,6 +39,6 @@ abbrev pub optional_table_of : Option Data → Option (Option Table)
 optional_table_of None = Some None
 optional_table_of (Some d) = option_map Some (table_in d)
 
--- a table, or none where the field is absent
+-- a table; no table if the field is missing
 abbrev pub optional_table_at : List ℕ → Data → Option (Option Table)
 optional_table_at key d = optional_table_of (get key d)

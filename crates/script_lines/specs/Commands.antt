@@ -1,4 +1,4 @@
--- The command that a value spells.
+-- The parsing of a value as a command.
 use Rattle.std.specs.Prelude.{List, [], ◌∷◌, Option, option_and_then, codes}
 use Rattle.serde_json.specs.Data.{Data}
 use Rattle.script_lines.specs.Fields.{string_at}
@@ -9,7 +9,7 @@ use Rattle.script_lines.specs.SearchCommands.{find_in, replace_in}
 use Rattle.script_lines.specs.declared.command.Command.{Command}
 use Rattle.script_lines.specs.declared.command.Command.TheVariants.{Undo, Redo, Stop, Size, Version, Changes, Line, Stops, Value, Offset, Position, Deco, Brackets, Match, Level, Snapshot, Read, Close, Mirror, Send, Deliver, Mirrored}
 
--- every command there is
+-- the table of all commands
 abbrev pub commands : List Row
 commands =
     row (codes "edit") edit_in
@@ -43,6 +43,6 @@ commands =
     ∷ row (codes "mirrored") (of_number Mirrored (codes "n"))
     ∷ []
 
--- the field `cmd` names the command
+-- the command named by the field `cmd`
 abbrev pub command_in : Data → Option Command
 command_in d = option_and_then (λ name. named_in commands name d) (string_at (codes "cmd") d)

@@ -24,6 +24,6 @@ decos_of d = do
   owner ← optional_number_at (codes "owner") d
   Some (Decos span owner)
 
--- `{"cmd":"decos","at":[START,END]}`, with `"owner":NUMBER` if only those of one owner are wanted
+-- `{"cmd":"decos","at":[START,END]}`, optionally with `"owner":NUMBER` for the decorations of one owner only
 abbrev pub decos_in : Data → Option Command
 decos_in d = if has_fields (codes "at" ∷ codes "owner" ∷ []) d then decos_of d else None

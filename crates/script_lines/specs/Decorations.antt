@@ -12,6 +12,6 @@ new_deco_of d = do
   collapse ← flag_at (codes "collapse") d
   Some (record { span = span; stick = stick; collapse = collapse })
 
--- `{"at":[START,END],"stick":NUMBER}`, with `"collapse":true` if it is on
+-- `{"at":[START,END],"stick":NUMBER}`, optionally with `"collapse":BOOLEAN`, which is false if missing
 abbrev pub new_deco_in : Data → Option NewDeco
 new_deco_in d = if has_only (codes "at" ∷ codes "stick" ∷ codes "collapse" ∷ []) d then new_deco_of d else None

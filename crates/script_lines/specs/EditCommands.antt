@@ -20,12 +20,12 @@ open_of d = do
   kind ← optional_kind_at (codes "eol") d
   Some (Open text brackets marks kind)
 
--- `{"cmd":"open","text":TEXT}`, with `"brackets":[[OPENING,CLOSING],..]` if the brackets are not those of the standard table, with
--- `"marks":MARKS` if comments and strings hide some, and with `"eol":"lf"` or `"eol":"crlf"` if all line endings are to be of that kind
+-- `{"cmd":"open","text":TEXT}`, optionally with `"brackets":[[OPENING,CLOSING],..]` instead of the standard table, with `"marks":MARKS`
+-- for comments and strings that hide brackets, and with `"eol":"lf"` or `"eol":"crlf"` for line endings all of that kind
 abbrev pub open_in : Data → Option Command
 open_in d = if has_fields (codes "text" ∷ codes "brackets" ∷ codes "marks" ∷ codes "eol" ∷ []) d then open_of d else None
 
--- where an op stands, by its field `at` where it has one: at a span of offsets, or in a range of positions
+-- the place of an op: the span of its field `at` if it has one, else the positions of its field `range`
 abbrev pub place_of : Option Data → Data → Option Place
 place_of (Some field) d = if has_only (codes "at" ∷ codes "text" ∷ codes "force" ∷ []) d then option_map At (span_from field) else None
 place_of None d = if has_only (codes "range" ∷ codes "text" ∷ codes "force" ∷ []) d
@@ -34,7 +34,7 @@ place_of None d = if has_only (codes "range" ∷ codes "text" ∷ codes "force" 
 abbrev pub place_in : Data → Option Place
 place_in d = place_of (get (codes "at") d) d
 
--- `{"at":[START,END],"text":TEXT}` or `{"range":[LINE,COL,LINE,COL],"text":TEXT}`, with `"force":true` if it is on
+-- `{"at":[START,END],"text":TEXT}` or `{"range":[LINE,COL,LINE,COL],"text":TEXT}`, optionally with `"force":BOOLEAN`, false if missing
 abbrev pub op_in : Data → Option LineOp
 op_in d = do
   place ← place_in d
@@ -42,7 +42,7 @@ op_in d = do
   force ← flag_at (codes "force") d
   Some (record { place = place; text = text; force = force })
 
--- one op or more
+-- at least one op
 abbrev pub some_ops_in : Items → Option (List LineOp)
 some_ops_in no_items = None
 some_ops_in (item d ds) = all_of op_in (item d ds)

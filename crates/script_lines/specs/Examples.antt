@@ -40,11 +40,11 @@ two a b = item (whole a) (item (whole b) no_items)
 abbrev new : Data
 new = object (member (codes "at") (array (two 2 5)) (member (codes "stick") (whole 1) no_members))
 
--- what is not there is off
+-- a missing flag is false
 new_without_collapse : new_deco_in new ≡ Some (record { span = record { start = 2; end = 5 }; stick = 1; collapse = false })
 new_without_collapse = refl
 
--- `null` is neither on nor off
+-- `null` is no flag
 new_with_null :
     new_deco_in (object (member (codes "at") (array (two 2 5))
     (member (codes "collapse") null (member (codes "stick") (whole 1) no_members))))
@@ -207,7 +207,7 @@ open_with_crlf : command_in (open_with_eol (string (codes "crlf"))) ≡ Some (Op
 unfolding chars
 open_with_crlf = refl
 
--- any line endings may stand where the field is absent, and no word says so
+-- without the field any line endings are allowed, and there is no word for this
 open_with_mixed : command_in (open_with_eol (string (codes "mixed"))) ≡ None
 unfolding chars
 open_with_mixed = refl
@@ -247,7 +247,7 @@ eol_with_a_text = refl
 
 -- ---- snapshots and stops
 
--- `{"cmd":CMD,KEY:NUMBER}`, its keys in their order
+-- `{"cmd":CMD,KEY:NUMBER}`, with its keys in order
 abbrev with_number : List ℕ → List ℕ → ℕ → Data
 with_number cmd key n = object (member (codes "cmd") (string cmd) (member key (whole n) no_members))
 
@@ -297,7 +297,7 @@ replace_a_text : command_in (replace (codes "ab") (codes "c")) ≡ Some (Replace
 unfolding chars
 replace_a_text = refl
 
--- what is found is then taken out
+-- an empty text deletes the occurrences
 replace_by_an_empty_text : command_in (replace (codes "ab") []) ≡ Some (Replace (codes "ab") [])
 unfolding chars
 replace_by_an_empty_text = refl
@@ -318,7 +318,7 @@ size_of_the_first = refl
 size_of_another : request_in (size_of (whole 1)) ≡ Some (One 1 Size)
 size_of_another = refl
 
--- how many documents there are is not asked here
+-- the number of documents is not checked here
 size_of_one_far_off : request_in (size_of (whole 64)) ≡ Some (One 64 Size)
 size_of_one_far_off = refl
 
@@ -368,7 +368,7 @@ joint_of_one = refl
 joint_of_none : request_in (joint no_items) ≡ None
 joint_of_none = refl
 
--- `doc` stands in the edits, and not beside them
+-- `doc` is a field of each edit, not of the joint edit
 joint_with_a_doc : request_in (object (member (codes "cmd") (string (codes "joint")) (member (codes "doc") (whole 0)
     (member (codes "edits") (array (item (one_op 3) (item (one_op 0) no_items))) no_members)))) ≡ None
 joint_with_a_doc = refl
@@ -376,7 +376,7 @@ joint_with_a_doc = refl
 joint_without_edits : request_in (only (codes "cmd") (string (codes "joint"))) ≡ None
 joint_without_edits = refl
 
--- which document an edit is for has to be said
+-- an edit must have the field `doc`
 edit_without_doc : request_in (joint (item (one_op 3) (item (only (codes "ops") (array (item given_op no_items))) no_items))) ≡ None
 unfolding chars
 edit_without_doc = refl
@@ -394,6 +394,6 @@ edit_with_a_name : request_in (joint (item (one_op 3) (item (object (member (cod
 unfolding chars
 edit_with_a_name = refl
 
--- a joint edit is no command
+-- a joint edit is no command on one document
 joint_is_no_command : command_in (joint (item (one_op 3) (item (one_op 0) no_items))) ≡ None
 joint_is_no_command = refl

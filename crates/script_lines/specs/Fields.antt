@@ -1,4 +1,4 @@
--- The fields of a JSON object, as serde_json reads it.
+-- The parsing of the fields of a JSON object as read by serde_json.
 use Rattle.std.specs.Prelude.{ℕ, Bool, true, false, ◌&&◌, List, [], ◌∷◌, ◌++◌, Option, Some, None, map, option_map, option_and_then, codes, if◌then◌else◌}
 use Rattle.std.specs.Borrow.{Bor}
 use Rattle.std.specs.List.{list_any}
@@ -12,7 +12,7 @@ use Rattle.unit_text.specs.declared.kind.Kind.TheVariants.{Mixed, Lf, Crlf}
 use Rattle.unit_text.specs.Text.{units_of}
 use Rattle.script_lines.specs.Reading.{◌>>=◌}
 
--- the names that a slice of texts tells
+-- a slice of texts as a list of names
 abbrev pub names_of : List (Bor (List ℕ)) → List (List ℕ)
 names_of texts = map (λ text. text.now) texts
 
@@ -24,7 +24,7 @@ abbrev pub keys_among : List (List ℕ) → Members → Bool
 keys_among names no_members = true
 keys_among names (member key d ms) = is_name names key && keys_among names ms
 
--- the value is an object, and has no field beside those of the names
+-- the value is an object whose keys are all among the names
 abbrev pub has_only : List (List ℕ) → Data → Bool
 has_only names null = false
 has_only names (boolean b) = false
@@ -33,15 +33,15 @@ has_only names (string s) = false
 has_only names (array ds) = false
 has_only names (object ms) = keys_among names ms
 
--- the fields that every command may have
+-- the fields that every command on one document may have
 abbrev pub common_fields : List (List ℕ)
 common_fields = codes "cmd" ∷ codes "doc" ∷ []
 
--- the value is an object, and has no field beside the common ones and those of the names
+-- the value is an object whose keys are all among the common ones and the names
 abbrev pub has_fields : List (List ℕ) → Data → Bool
 has_fields names d = has_only (common_fields ++ names) d
 
--- the whole number below 2 ^ 64 that the value is
+-- the value as a whole number below 2 ^ 64; None if it is none
 abbrev pub whole_number : Data → Option ℕ
 whole_number d = option_and_then as_u64 (as_number d)
 
@@ -52,11 +52,11 @@ abbrev pub optional_number_of : Option Data → Option (Option ℕ)
 optional_number_of None = Some None
 optional_number_of (Some d) = option_map Some (whole_number d)
 
--- a number, or none where the field is absent
+-- a number; no number if the field is missing
 abbrev pub optional_number_at : List ℕ → Data → Option (Option ℕ)
 optional_number_at key d = optional_number_of (get key d)
 
--- what is read of each item, in order; nothing where one of them is not read
+-- the results of reading the items, in order; None if one of them is invalid
 abbrev pub all_of : {X : Type 0} → (Data → Option X) → Items → Option (List X)
 all_of reads no_items = Some []
 all_of reads (item d ds) = do
@@ -64,14 +64,14 @@ all_of reads (item d ds) = do
   xs ← all_of reads ds
   Some (x ∷ xs)
 
--- an array of any count of items
+-- an array of any number of items
 abbrev pub list_in : {X : Type 0} → (Data → Option X) → Data → Option (List X)
 list_in reads d = option_and_then (all_of reads) (as_array d)
 
 abbrev pub list_at : {X : Type 0} → (Data → Option X) → List ℕ → Data → Option (List X)
 list_at reads key d = option_and_then (list_in reads) (get key d)
 
--- what is read of exactly two items
+-- the result of reading exactly two items; None for any other number of items
 abbrev pub two_of : {X : Type 0} → (Data → Data → Option X) → Items → Option X
 two_of reads no_items = None
 two_of reads (item a no_items) = None
@@ -81,7 +81,7 @@ two_of reads (item a (item b (item c ds))) = None
 abbrev pub string_at : List ℕ → Data → Option (List ℕ)
 string_at key d = option_and_then as_str (get key d)
 
--- the units of the text that the value is
+-- the units of a value that is a text
 abbrev pub text_of : Data → Option (List ℕ)
 text_of d = option_map units_of (as_str d)
 
@@ -92,7 +92,7 @@ abbrev pub optional_text_of : Option Data → Option (Option (List ℕ))
 optional_text_of None = Some None
 optional_text_of (Some d) = option_map Some (text_of d)
 
--- a text, or none where the field is absent
+-- a text; no text if the field is missing
 abbrev pub optional_text_at : List ℕ → Data → Option (Option (List ℕ))
 optional_text_at key d = optional_text_of (get key d)
 
@@ -116,7 +116,7 @@ abbrev pub flag_of : Option Data → Option Bool
 flag_of None = Some false
 flag_of (Some d) = as_bool d
 
--- a flag that is off where the field is absent
+-- a flag; false if the field is missing
 abbrev pub flag_at : List ℕ → Data → Option Bool
 flag_at key d = flag_of (get key d)
 
@@ -135,7 +135,7 @@ abbrev pub optional_kind_of : Option Data → Option Kind
 optional_kind_of None = Some Mixed
 optional_kind_of (Some d) = kind_of d
 
--- the kind that the field names; where it is absent any line endings may stand
+-- the kind that the field names; `Mixed`, which allows any line endings, if the field is missing
 abbrev pub optional_kind_at : List ℕ → Data → Option Kind
 optional_kind_at key d = optional_kind_of (get key d)
 
@@ -159,7 +159,7 @@ positions_in (item a (item b (item c (item d (item e ds))))) = None
 abbrev pub positions_at : List ℕ → Data → Option (Position × Position)
 positions_at key d = option_and_then positions_in (option_and_then as_array (get key d))
 
--- the fields that name a position
+-- the position in the fields `line` and `col`
 abbrev pub position_in : Data → Option Position
 position_in d = do
   line ← number_at (codes "line") d

@@ -20,11 +20,11 @@ abbrev pub optional_quotes_of : Option Data → Option (List ℕ)
 optional_quotes_of None = Some []
 optional_quotes_of (Some d) = list_in quote_in d
 
--- an array of quotes; none where the field is absent
+-- an array of quotes; no quotes if the field is missing
 abbrev pub optional_quotes_at : List ℕ → Data → Option (List ℕ)
 optional_quotes_at key d = optional_quotes_of (get key d)
 
--- what is given, where these may be marks
+-- the marks, if they are valid
 abbrev pub marks_of : Marks → Option Marks
 marks_of m = if are_marks m then Some m else None
 
@@ -35,7 +35,7 @@ marks_from d = do
   quotes ← optional_quotes_at (codes "quotes") d
   marks_of (marks line block quotes)
 
--- `{}`, with `"line":TEXT`, `"block":[OPENING,CLOSING]` and `"quotes":[TEXT,..]` as there are any
+-- `{}`, optionally with `"line":TEXT`, `"block":[OPENING,CLOSING]` and `"quotes":[TEXT,..]`
 abbrev pub marks_in : Data → Option Marks
 marks_in d = if has_only (codes "line" ∷ codes "block" ∷ codes "quotes" ∷ []) d then marks_from d else None
 
@@ -43,6 +43,6 @@ abbrev pub optional_marks_of : Option Data → Option (Option Marks)
 optional_marks_of None = Some None
 optional_marks_of (Some d) = option_map Some (marks_in d)
 
--- marks, or none where the field is absent
+-- marks; no marks if the field is missing
 abbrev pub optional_marks_at : List ℕ → Data → Option (Option Marks)
 optional_marks_at key d = optional_marks_of (get key d)

@@ -1,15 +1,15 @@
--- What a request has that a line spells.
+-- Properties of parsed requests.
 use Rattle.std.specs.Prelude.{◌<◌, ◌≤◌, List, length, ⊤}
 use Rattle.std.specs.List.{All}
 use Rattle.script_lines.specs.declared.request.DocEdit.{DocEdit}
 use Rattle.script_lines.specs.declared.request.Request.{Request}
 use Rattle.script_lines.specs.declared.request.Request.TheVariants.{One, Joint}
 
--- one op or more
+-- at least one op
 abbrev pub HasOps : DocEdit → Type 0
 HasOps edit = 0 < length edit.ops
 
--- two batches or more, and an op or more in each
+-- at least two batches, and at least one op in each
 pub record AreBatches (edits : List DocEdit) : Type 0 where
   pub several : 2 ≤ length edits
   pub some : All HasOps edits

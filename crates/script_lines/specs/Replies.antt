@@ -13,11 +13,11 @@ number_part n = 32 ∷ decimal n
 abbrev pub ok_reply : List ℕ → List ℕ
 ok_reply numbers = codes "ok" ++ flat_map number_part numbers ++ codes "\n"
 
--- where there was nothing to do or to show
+-- the reply if there is nothing to do or to show
 abbrev pub none_reply : List ℕ
 none_reply = codes "ok none\n"
 
--- where it came before
+-- the reply to an event that the mirror is already past
 abbrev pub old_reply : List ℕ
 old_reply = codes "ok old\n"
 

@@ -1,4 +1,4 @@
--- The request that a line spells.
+-- The parsing of a line as a request.
 use Rattle.std.specs.Prelude.{ℕ, List, [], ◌∷◌, Option, Some, None, option_map, option_and_then, unwrap_or, codes, if◌then◌else◌}
 use Rattle.std.specs.Str.{is_utf8, bytes_eq}
 use Rattle.serde_json.specs.Data.{Data, Items, no_items, item}
@@ -12,11 +12,11 @@ use Rattle.script_lines.specs.declared.request.DocEdit.{DocEdit}
 use Rattle.script_lines.specs.declared.request.Request.{Request}
 use Rattle.script_lines.specs.declared.request.Request.TheVariants.{One, Joint}
 
--- the number of the document that a command is for: 0 where the field is absent
+-- the number of the document that a command applies to: 0 if the field is missing
 abbrev pub doc_in : Data → Option ℕ
 doc_in d = option_map (λ doc. unwrap_or doc 0) (optional_number_at (codes "doc") d)
 
--- a command, with `"doc":NUMBER` if it is for another document than that of number 0
+-- a command, optionally with `"doc":NUMBER` for its document, which is 0 if missing
 abbrev pub one_in : Data → Option Request
 one_in d = do
   doc ← doc_in d
@@ -33,7 +33,7 @@ doc_edit_of d = do
 abbrev pub doc_edit_in : Data → Option DocEdit
 doc_edit_in d = if has_only (codes "doc" ∷ codes "ops" ∷ []) d then doc_edit_of d else None
 
--- two batches or more
+-- at least two batches
 abbrev pub joint_edits_in : Items → Option (List DocEdit)
 joint_edits_in no_items = None
 joint_edits_in (item d no_items) = None
@@ -47,10 +47,10 @@ joint_in d = if has_only (codes "cmd" ∷ codes "edits" ∷ []) d
 abbrev pub request_named : List ℕ → Data → Option Request
 request_named name d = if bytes_eq name (codes "joint") then joint_in d else one_in d
 
--- the field `cmd` tells a joint edit from a command
+-- a joint edit or a command on one document, by the field `cmd`
 abbrev pub request_in : Data → Option Request
 request_in d = option_and_then (λ name. request_named name d) (string_at (codes "cmd") d)
 
--- a line is a request where it is JSON in UTF-8, and its value is that of a request
+-- a line is a request if it is JSON in UTF-8 and its value is a request
 unfoldable pub request_of : List ℕ → Option Request
 request_of line = if is_utf8 line then option_and_then request_in (read line) else None

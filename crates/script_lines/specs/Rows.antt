@@ -1,4 +1,4 @@
--- The rows of the table of commands, and the shapes that many of them have.
+-- The rows of the table of commands, and sets of fields that several of them have in common.
 use Rattle.std.specs.Prelude.{ℕ, List, [], ◌∷◌, Option, Some, None, option_map, codes, if◌then◌else◌}
 use Rattle.std.specs.Str.{bytes_eq}
 use Rattle.serde_json.specs.Data.{Data}
@@ -8,7 +8,7 @@ use Rattle.script_lines.specs.Reading.{◌>>=◌}
 use Rattle.script_lines.specs.Fields.{has_fields, number_at, span_at, position_in}
 use Rattle.script_lines.specs.declared.command.Command.{Command}
 
--- the name of a command, and what reads its fields
+-- the name of a command, and the rule that reads its fields
 pub record Row : Type 0 where
   pub name : List ℕ
   pub reads : Data → Option Command
@@ -16,7 +16,7 @@ pub record Row : Type 0 where
 abbrev pub row : List ℕ → (Data → Option Command) → Row
 row name reads = record { name = name; reads = reads }
 
--- what the row of this name reads; nothing where there is no such row
+-- the command read by the row with this name; None if there is no such row
 abbrev pub named_in : List Row → List ℕ → Data → Option Command
 named_in [] name d = None
 named_in (r ∷ rows) name d = if bytes_eq name r.name then r.reads d else named_in rows name d

@@ -1,4 +1,4 @@
--- The commands that look for a text.
+-- The commands that search for a text.
 use Rattle.std.specs.Prelude.{ℕ, List, [], ◌∷◌, Option, Some, None, option_map, option_and_then, codes, if◌then◌else◌}
 use Rattle.serde_json.specs.Data.{Data}
 use Rattle.script_lines.specs.Reading.{◌>>=◌}
@@ -6,7 +6,7 @@ use Rattle.script_lines.specs.Fields.{has_fields, text_at}
 use Rattle.script_lines.specs.declared.command.Command.{Command}
 use Rattle.script_lines.specs.declared.command.Command.TheVariants.{Find, Replace}
 
--- a text of one unit or more
+-- a text of at least one unit
 abbrev pub sought_of : List ℕ → Option (List ℕ)
 sought_of [] = None
 sought_of (u ∷ units) = Some (u ∷ units)

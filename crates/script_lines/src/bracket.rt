@@ -1,4 +1,4 @@
-//! Bracket tables as a line spells them.
+//! Parsing of bracket tables.
 
 ghost use Rattle.std.specs.Prelude.{◌≡◌};
 ghost use Rattle.serde_json.specs.View.{view, items_view};

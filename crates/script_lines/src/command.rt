@@ -1,4 +1,4 @@
-//! Commands, and the values that spell them.
+//! Commands, and their parsing from JSON values.
 
 ghost use Rattle.std.specs.Prelude.{◌≡◌, Some, codes};
 ghost use Rattle.serde_json.specs.View.{view};
@@ -18,45 +18,45 @@ use std::alloc::Global;
 use text_lengths::{Position, Span};
 use unit_text::{Kind, Units};
 
-/// What a line asks of one document.
+/// A command on one document.
 #[derive(Drop)]
 pub enum Command {
-    /// Puts a new document in place of the old one. Its brackets are those of the table, or of
-    /// the standard table; its comments and strings, which hide brackets, are those of the marks,
-    /// if there are any; and its line endings are of the kind.
+    /// Replaces the document by a new one. Its brackets are those of the given table, or of the standard table.
+    /// Comments and strings, as given by the marks, hide brackets; without marks nothing is hidden. The line endings
+    /// of the text become those of the kind.
     Open {
         text: Units,
         brackets: Option<BracketTable>,
         marks: Option<Hiding>,
         kind: Kind,
     },
-    /// Changes the text.
+    /// Applies the ops to the text as one batch.
     Edit {
         ops: LineOps,
     },
-    /// Changes the line endings of the text to those of the kind.
+    /// Converts the line endings of the text to those of the kind.
     Eol {
         kind: Kind,
     },
-    /// Removes decorations of the owner, by their ids, and adds new ones to it.
+    /// Removes decorations of the owner by their ids, and adds new ones for this owner.
     Decorate {
         owner: u64,
         remove: Ids,
         add: NewDecos,
     },
-    /// Goes back to the text before the last step.
+    /// Undoes the last step.
     Undo,
-    /// Goes on to the text after the step that was undone last.
+    /// Redoes the step that was undone last.
     Redo,
-    /// Lets the next edit begin a step.
+    /// Closes the undo step, so that the next edit begins a new one.
     Stop,
-    /// Asks how many units and lines the text has.
+    /// Asks for the numbers of units and lines of the text.
     Size,
-    /// Asks for the version, and the version at which the text was last as it is now.
+    /// Asks for the version, and for the alternative version, which undo and redo restore together with the text.
     Version,
-    /// Asks what the last change did, as edits that are carried out one after another.
+    /// Asks for the last change, as edits that are carried out one after another.
     Changes,
-    /// Asks for the content of the line of this number, counted from 1.
+    /// Asks for the content of line `n`, counted from 1.
     Line {
         n: u64,
     },
@@ -76,12 +76,12 @@ pub enum Command {
     Deco {
         id: u64,
     },
-    /// Asks for the decorations that share a unit with the span, or touch it: all of them, or those of one owner.
+    /// Asks for the decorations that overlap or touch the span: those of all owners, or of one.
     Decos {
         at: Span,
         owner: Option<u64>,
     },
-    /// Asks for the brackets of the lines from the first number to the second, counted from 1.
+    /// Asks for the brackets of lines `from` to `to`, both included, counted from 1.
     Brackets {
         from: u64,
         to: u64,
@@ -96,44 +96,44 @@ pub enum Command {
     },
     /// Takes a snapshot of the text.
     Snapshot,
-    /// Asks for the next units of the snapshot, at most `count` of them.
+    /// Asks for the next units of the snapshot, at most `count`.
     Read {
         id: u64,
         count: u64,
     },
-    /// Gives up the snapshot.
+    /// Closes the snapshot.
     Close {
         id: u64,
     },
-    /// Asks for the columns of the line of this number, counted from 1, at which a cursor may stop.
+    /// Asks for the columns of line `n`, counted from 1, at which a cursor may stop.
     Stops {
         n: u64,
     },
-    /// Asks for the spans of the text at which this one stands.
+    /// Asks for the spans of the occurrences of the search text.
     Find {
         sought: Sought,
     },
-    /// Puts a text in the place of each of these spans.
+    /// Replaces each occurrence of the search text by `text`.
     Replace {
         sought: Sought,
         text: Units,
     },
-    /// Begins a mirror at the text of now.
+    /// Begins a mirror of the current text.
     Mirror,
     /// Sends the last change as an event.
     Send,
-    /// Hands the sent event of this number, counted from 1, to the mirror.
+    /// Delivers sent event `n`, counted from 1, to the mirror.
     Deliver {
         n: u64,
     },
-    /// Asks for the content of the mirror's line of this number, counted from 1.
+    /// Asks for the content of line `n` of the mirror, counted from 1.
     Mirrored {
         n: u64,
     },
 }
 
-/// The command that the value spells, where `name` is what it has at `cmd`. `Syntax` exactly where
-/// it spells none.
+/// Parses a command. `name` is the value of the field `cmd`. Fails with `Syntax` if the value is not a valid command;
+/// `Memory` may take the place of any result.
 pub(crate) fn command_in(alloc: Global, name: &str, value: &Value) -> Result<Command, LineFault>
     requires { string_at (codes "cmd") (view value.now) ≡ Some name.now }
     ensures { Reads result (command_in (view value.now)) }

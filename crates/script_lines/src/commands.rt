@@ -21,7 +21,7 @@ use serde_json::Value;
 use shapes::{bare, sole_number, sole_position, sole_span, two_numbers};
 use std::alloc::Global;
 
-/// The command of this name.
+/// Parses the command named `name`. Fails with `Syntax` if there is no such command, or its fields are invalid.
 pub(crate) fn command_named(alloc: Global, name: &str, value: &Value) -> Result<Command, LineFault>
     ensures { Reads result (named_in commands name.now (view value.now)) }
 {

@@ -1,4 +1,4 @@
-//! New decorations as a line spells them.
+//! Parsing of new decorations.
 
 ghost use Rattle.serde_json.specs.View.{view};
 ghost use Rattle.script_lines.specs.Reading.{Reads};

@@ -1,4 +1,4 @@
-//! The fields of a JSON object.
+//! Reading the fields of a JSON object.
 
 ghost use Rattle.std.specs.Prelude.{◌≡◌, ◌++◌, string_bytes};
 ghost use Rattle.std.specs.BTreeMap.{keys};
@@ -14,25 +14,25 @@ use text_lengths::{Position, Span};
 use thiserror::Error;
 use unit_text::{Kind, Units, units_of};
 
-/// Why a line was not read as a command.
+/// The reason why a line was not read as a command.
 #[derive(Clone, Copy, PartialEq, Eq, Debug, Error)]
 pub enum LineFault {
-    /// The line is no command.
+    /// The line is not a valid command.
     #[error("the line is no command")]
     Syntax,
-    /// There was no memory to read it.
+    /// Out of memory while the line was read.
     #[error("out of memory")]
     Memory,
 }
 
-/// Refuses what is no object, or has a field beside those of the names.
+/// Fails with `Syntax` unless the value is an object whose keys are all among `names`.
 pub(crate) fn expect_only(value: &Value, names: &[&str]) -> Result<(), LineFault>
     ensures { Passes result (has_only (names_of names.now) (view value.now)) }
 {
     expect(has_only(value, &[], names))
 }
 
-/// Refuses what is no object, or has a field beside those that every command may have and those of the names.
+/// Fails with `Syntax` unless the value is an object whose keys are all among `names`, `cmd` and `doc`.
 pub(crate) fn expect_fields(value: &Value, names: &[&str]) -> Result<(), LineFault>
     ensures { Passes result (has_fields (names_of names.now) (view value.now)) }
 {
@@ -49,7 +49,7 @@ fn expect(holds: bool) -> Result<(), LineFault>
     }
 }
 
-/// Whether the value is an object with no field beside those of the two lists of names.
+/// Returns whether the value is an object whose keys are all in `common` or `names`.
 fn has_only(value: &Value, common: &[&str], names: &[&str]) -> bool
     ensures { result ≡ has_only (names_of common.now ++ names_of names.now) (view value.now) }
 {
@@ -224,7 +224,7 @@ pub(crate) fn kind_at(value: &Value, key: &str) -> Result<Kind, LineFault>
     kind_of(field)
 }
 
-/// The kind that the field names; `Mixed` where the field is absent.
+/// Returns the kind that the field names; `Mixed` if the field is missing.
 pub(crate) fn optional_kind_at(value: &Value, key: &str) -> Result<Kind, LineFault>
     ensures { Reads result (optional_kind_at key.now (view value.now)) }
 {

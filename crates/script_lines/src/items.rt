@@ -1,4 +1,4 @@
-//! Lists as a line spells them, an item after another.
+//! Parsing of JSON arrays into lists, item by item.
 
 ghost use Rattle.std.specs.Prelude.{Option};
 ghost use Rattle.serde_json.specs.Data.{Data};
@@ -11,7 +11,7 @@ use crate::lists::ListOf;
 use serde_json::Value;
 use std::alloc::Global;
 
-/// What a line can have a list of.
+/// A type of list items that a line can contain.
 pub(crate) trait Item: Drop {
     ghost reads: { Data → Option Self };
 

@@ -1,4 +1,4 @@
-//! The script language: the request that a line spells, and the bytes of a reply.
+//! The script language: parsing of request lines, and formatting of replies.
 #![tactic(auto)]
 
 mod bracket;

@@ -1,4 +1,4 @@
-//! Lists that a command holds, which contracts see as lists.
+//! Lists in commands. In contracts they are plain lists.
 
 ghost use Rattle.std.specs.Prelude.{◌≡◌};
 
@@ -11,7 +11,7 @@ pub type Ids = ListOf<u64>;
 /// New decorations.
 pub type NewDecos = ListOf<NewDeco>;
 
-/// Items in the order in which the line has them.
+/// Items in the order of the line.
 #[derive(Drop, Debug)]
 pub struct ListOf<T> {
     items: Vec<T>,
@@ -26,14 +26,14 @@ impl<T> Model for ListOf<T> {
 }
 
 impl<T> ListOf<T> {
-    /// The items of the vector, with no copy.
+    /// Wraps a vector without copying its items.
     pub fn from_vec(items: Vec<T>) -> ListOf<T>
         ensures { result ≡ items.items }
     {
         ListOf { items }
     }
 
-    /// The vector of the items, with no copy.
+    /// Returns the vector of the items without copying them.
     pub fn into_vec(self) -> Vec<T>
         ensures { result.items ≡ self }
     {

@@ -1,5 +1,5 @@
-//! Replies of any length, built part by part in a vector. Each part is appended whole, or it leaves `out` as it was. No part
-//! takes memory where there is room for it.
+//! Replies of any length, built part by part in a vector. Each call appends a whole part, or fails and leaves `out` unchanged.
+//! It allocates nothing if the capacity of `out` suffices.
 
 ghost use Rattle.std.specs.Prelude.{◌≡◌, ◌+◌, ◌<◌, ◌≤◌, ◌++◌, ◌∷◌, [], OnOk, OnErr, codes, vec_len, vec_capacity};
 ghost use Rattle.script_lines.specs.Replies.{number_part, text_part};
@@ -8,7 +8,7 @@ use crate::short::number_part;
 use std::alloc::AllocError;
 use unit_text::quoted;
 
-/// `ok`
+/// Appends `ok`.
 pub fn long_begin(out: &mut Vec<u8>) -> Result<(), AllocError>
     ensures ok { OnOk result (out.new.items ≡ out.old.items ++ codes "ok") }
     ensures err { OnErr result (out.new.items ≡ out.old.items) }
@@ -19,7 +19,7 @@ pub fn long_begin(out: &mut Vec<u8>) -> Result<(), AllocError>
     out.extend_from_slice(b"ok")
 }
 
-/// A blank and the number, in at most 21 bytes.
+/// Appends a blank and the number, at most 21 bytes.
 pub fn long_number(n: u64, out: &mut Vec<u8>) -> Result<(), AllocError>
     ensures ok { OnOk result (out.new.items ≡ out.old.items ++ number_part n) }
     ensures err { OnErr result (out.new.items ≡ out.old.items) }
@@ -31,7 +31,7 @@ pub fn long_number(n: u64, out: &mut Vec<u8>) -> Result<(), AllocError>
     out.extend_from_slice(part.as_slice())
 }
 
-/// A blank and the letter.
+/// Appends a blank and the letter.
 pub fn long_mark(letter: u8, out: &mut Vec<u8>) -> Result<(), AllocError>
     ensures ok { OnOk result (out.new.items ≡ out.old.items ++ 32 ∷ letter ∷ []) }
     ensures err { OnErr result (out.new.items ≡ out.old.items) }
@@ -39,7 +39,7 @@ pub fn long_mark(letter: u8, out: &mut Vec<u8>) -> Result<(), AllocError>
     out.extend_from_slice(&[b' ', letter])
 }
 
-/// A blank and the units as a JSON string.
+/// Appends a blank and the units as a JSON string.
 pub fn long_text(units: &[u16], out: &mut Vec<u8>) -> Result<(), AllocError>
     ensures ok { OnOk result (out.new.items ≡ out.old.items ++ text_part units.now) }
     ensures err { OnErr result (out.new.items ≡ out.old.items) }
@@ -53,7 +53,7 @@ pub fn long_text(units: &[u16], out: &mut Vec<u8>) -> Result<(), AllocError>
     appended
 }
 
-/// The end of the line.
+/// Appends LF, the end of the line.
 pub fn long_end(out: &mut Vec<u8>) -> Result<(), AllocError>
     ensures ok { OnOk result (out.new.items ≡ out.old.items ++ codes "\n") }
     ensures err { OnErr result (out.new.items ≡ out.old.items) }

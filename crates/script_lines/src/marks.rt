@@ -1,4 +1,4 @@
-//! Marks of comments and strings as a line spells them.
+//! Parsing of the marks of comments and strings.
 
 ghost use Rattle.std.specs.Prelude.{◌≡◌};
 ghost use Rattle.serde_json.specs.View.{view};

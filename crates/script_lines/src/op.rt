@@ -1,19 +1,19 @@
-//! Edits as a line spells them.
+//! The edits of a line.
 
 use crate::lists::ListOf;
 use text_lengths::{Position, Span};
 use unit_text::Units;
 
-/// Where an op stands.
+/// The place of an op in the text.
 #[derive(Clone, Copy, PartialEq, Eq, Debug)]
 pub enum Place {
-    /// At a span of offsets.
+    /// A span of offsets.
     At(Span),
-    /// From the first position up to the second.
+    /// The range from the first position to the second.
     InRange(Position, Position),
 }
 
-/// One edit of a line: the text takes the place of what stands there.
+/// One edit of a line: replaces the units at `place` by `text`.
 #[derive(Drop, Debug)]
 pub struct LineOp {
     pub place: Place,

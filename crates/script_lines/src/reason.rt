@@ -1,6 +1,6 @@
-//! Why lines are refused.
+//! Reasons for refusing a line.
 
-/// Why a line was refused.
+/// The reason why a line was refused.
 #[derive(Clone, Copy, PartialEq, Eq, Debug)]
 pub enum Refusal {
     Syntax,
@@ -9,8 +9,8 @@ pub enum Refusal {
     Overlap,
     Limit,
     Memory,
-    /// Events before it are missing: the version of the mirror, and the one that the event needs.
+    /// Earlier events are missing: the mirror has version `have`, but the event needs version `need`.
     Gap { have: u64, need: u64 },
-    /// A step of several documents is not the next one of the document of this number.
+    /// A joint step is not the next step of document `doc`, one of its members.
     Joint { doc: u64 },
 }

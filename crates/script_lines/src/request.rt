@@ -1,4 +1,4 @@
-//! Requests, and the lines that spell them.
+//! Requests, and their parsing from lines.
 
 ghost use Rattle.std.specs.Prelude.{◌≡◌, true, Some, None, IfOk, OnOk, Err, codes};
 ghost use Rattle.std.specs.Str.{is_utf8};
@@ -18,29 +18,30 @@ use serde_json::Value;
 use serde_json::error::Category;
 use std::alloc::Global;
 
-/// One line of a script: what it asks, and of which documents.
+/// The request of one line of a script.
 #[derive(Drop)]
 pub enum Request {
-    /// The command, on the document of this number, which may be any.
+    /// A command on document `doc`. The number may be out of range.
     One { doc: u64, command: Command },
-    /// A batch in each of these documents, all or none: two batches or more, whose documents may
-    /// have any numbers, also the same one.
+    /// A joint edit, which is carried out as a whole or not at all. It has at least two batches. Their document
+    /// numbers may be out of range or equal.
     Joint { edits: DocEdits },
 }
 
-/// One batch of a joint edit, and the document that it is for.
+/// One batch of a joint edit, with the document that it applies to.
 #[derive(Drop, Debug)]
 pub struct DocEdit {
-    /// Any number.
+    /// The number of the document, which may be out of range.
     pub doc: u64,
-    /// One op or more, in the order of the line.
+    /// The ops in the order of the line, at least one.
     pub ops: LineOps,
 }
 
 /// The batches of a joint edit.
 pub type DocEdits = ListOf<DocEdit>;
 
-/// The request that the line spells. `Syntax` exactly where it spells none.
+/// Parses the request of a line. Fails with `Syntax` if the line is not a valid request; `Memory` may take the place
+/// of any result.
 #[tactic(auto, unfolding(crate::specs::Requests::request_of))]
 pub fn request_of(alloc: Global, line: &[u8]) -> Result<Request, LineFault>
     ensures { Reads result (request_of line.now) }
@@ -75,7 +76,7 @@ fn request_in(alloc: Global, value: &Value) -> Result<Request, LineFault>
     }
 }
 
-/// The command on one document that the value spells, where `name` is what it has at `cmd`.
+/// Parses a command on one document. `name` is the value of the field `cmd`.
 fn one_in(alloc: Global, name: &str, value: &Value) -> Result<Request, LineFault>
     requires { string_at (codes "cmd") (view value.now) ≡ Some name.now }
     ensures { Reads result (one_in (view value.now)) }
@@ -85,7 +86,7 @@ fn one_in(alloc: Global, name: &str, value: &Value) -> Result<Request, LineFault
     Ok(Request::One { doc, command })
 }
 
-/// The number of the document that a command is for.
+/// Returns the number of the document that a command applies to: 0 if the field `doc` is missing.
 fn doc_in(value: &Value) -> Result<u64, LineFault>
     ensures { Reads result (doc_in (view value.now)) }
 {

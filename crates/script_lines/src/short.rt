@@ -1,4 +1,4 @@
-//! Replies that need no memory.
+//! Replies built without allocation.
 
 ghost use Rattle.std.specs.Prelude.{◌≡◌, ◌≤◌, length};
 ghost use Rattle.arrayvec.specs.ArrayVec.{array_vec_len};
@@ -9,7 +9,7 @@ use arrayvec::ArrayVec;
 use itoa::Buffer;
 use std::marker::Model;
 
-/// A reply of at most 128 bytes, which contracts see as its bytes.
+/// A reply of at most 128 bytes. In contracts it is the list of its bytes.
 #[derive(Drop)]
 pub struct Short {
     bytes: ArrayVec<u8, 128>,
@@ -24,7 +24,7 @@ impl Model for Short {
 }
 
 impl Short {
-    /// `ok` and the numbers: at most five of them.
+    /// Returns the reply `ok` followed by the numbers, at most five.
     pub fn ok(parts: &[u64]) -> Short
         requires { length parts.now ≤ 5 }
         ensures { result ≡ ok_reply parts.now }
@@ -39,14 +39,14 @@ impl Short {
         Short { bytes }
     }
 
-    /// `ok none`, where there was nothing to do or to show.
+    /// Returns the reply `ok none`: there was nothing to do or to show.
     pub fn none() -> Short
         ensures { result ≡ none_reply }
     {
         Short::from_text(b"ok none\n")
     }
 
-    /// `ok old`, where it came before.
+    /// Returns the reply `ok old`: the mirror is already past the event.
     pub fn old() -> Short
         ensures { result ≡ old_reply }
     {
@@ -69,7 +69,7 @@ impl Short {
     }
 }
 
-/// The reply that refuses a line.
+/// Returns the reply that refuses a line for the reason `r`.
 pub fn refusal(r: Refusal) -> Short
     ensures { result ≡ refusal_reply r }
 {
@@ -109,7 +109,7 @@ fn gap(have: u64, need: u64) -> Short
     Short { bytes }
 }
 
-/// A blank and the number in plain decimals.
+/// Returns a blank and the number in plain decimals, at most 21 bytes.
 pub(crate) fn number_part(n: u64) -> ArrayVec<u8, 21>
     ensures text { result.items ≡ number_part n }
     ensures len { array_vec_len result ≤ 21 }

@@ -1,4 +1,4 @@
-//! The text that a line looks for.
+//! The search text of a line.
 
 ghost use Rattle.std.specs.Prelude.{◌≡◌, ◌<◌, length};
 ghost use Rattle.script_lines.specs.SearchCommands.{sought_of};
@@ -6,7 +6,7 @@ ghost use Rattle.script_lines.specs.SearchCommands.{sought_of};
 use std::marker::Model;
 use unit_text::Units;
 
-/// A text that is looked for: one unit or more, which contracts see as their list.
+/// A search text of at least one unit. In contracts it is the list of its units.
 #[derive(Drop, Debug)]
 pub struct Sought {
     units: Units,
@@ -23,7 +23,7 @@ impl Model for Sought {
 }
 
 impl Sought {
-    /// The units, with no copy; None where there are none.
+    /// Wraps the units without copying them; returns None if there are none.
     pub fn from_units(units: Units) -> Option<Sought>
         ensures { result ≡ sought_of units }
     {

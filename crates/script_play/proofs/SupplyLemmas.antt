@@ -1,4 +1,4 @@
--- What is left of a script around a read.
+-- The rest of a script before and after a read.
 use Rattle.std.proofs.Common.{◌≡◌, ℕ, zero, suc, ◌+◌, ◌-◌, ◌<◌, ◌≤◌, List, [], ◌++◌, take, drop, length, length-append, length-take, false, arith, refl, sym, ◌∙◌, ap, append_assoc}
 use Rattle.std.proofs.lemmas.List.{take-append-drop, take-append-le, drop-drop, length-drop, nil_from_length}
 use Rattle.std.proofs.Math.Seq.{take-append-add}
@@ -36,7 +36,7 @@ script-some (suc count) seed some =
     let less : suc count - 1 ≡ count = omega arith in
     rw less
 
--- what a read gives of a line, and what stays
+-- the bytes of a line that a read returns, and the rest
 pub given_front : (items buf more : List ℕ) (given count : ℕ) → take count buf ≡ take count (drop given items)
     → drop given items ++ more ≡ take count buf ++ (drop (given + count) items ++ more)
 given_front items buf more given count front =
@@ -45,13 +45,13 @@ given_front items buf more given count front =
     ∙ ap (λ z. z ++ (drop count (drop given items) ++ more)) (sym front)
     ∙ ap (λ z. take count buf ++ (z ++ more)) (drop-drop count given items)
 
--- where a line and all after it is given, nothing is left
+-- after a line and all lines after it were read, nothing is left
 pub given_all : (items : List ℕ) (given count : ℕ) (play : Play) → length items ≤ given → count ≡ 0
     → drop given items ++ lines_from count play ≡ []
 given_all items given count play whole none =
     rw (nil_from_length (drop given items) (omega (arith, length-drop given items))) (lines_from-none count play none)
 
--- where a line is given, the next one takes its place
+-- after a line was read, the next one takes its place
 pub refilled : (items fresh : List ℕ) (given count : ℕ) (play after : Play) (line : Line) → length items ≤ given → 0 < count
     → fresh ≡ line_bytes line → line ≡ (next_line play).0 → after ≡ (next_line play).1
     → fresh ++ lines_from (count - 1) after ≡ drop given items ++ lines_from count play

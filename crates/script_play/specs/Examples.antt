@@ -50,7 +50,7 @@ play = record { x = 50; units = 20; pending = false }
 abbrev line_of : ℕ → List ℕ
 line_of choice = line_bytes (chosen_line choice play).0
 
--- the draw of how many units to remove answered 2
+-- the draw of the number of units to remove gave 2
 an_edit : line_of 0 ≡ codes "{\"cmd\":\"edit\",\"ops\":[{\"at\":[19,20],\"text\":\"bc d\"}]}\n"
 unfolding next digits
 an_edit = refl

@@ -3,7 +3,7 @@ use Rattle.std.specs.Prelude.{ℕ, List, ◌++◌, ◌==◌, if◌then◌else◌
 use Rattle.script_play.specs.declared.line.Line.{Line}
 use Rattle.script_play.specs.declared.line.Line.TheVariants.{Open, Edit, Undo, Redo, Stop, Decorate, Position, Level, Brackets, Decos, Size}
 
--- the text of that number, as it is spelled in a line
+-- text number `text` as a JSON string
 abbrev pub spelled : ℕ → List ℕ
 spelled text =
     if text == 0 then codes "\"a\""
@@ -15,11 +15,11 @@ spelled text =
     else if text == 6 then codes "\"bc d\""
     else codes "\"{\""
 
--- how many units it has
+-- the number of units of text number `text`
 abbrev pub units_of : ℕ → ℕ
 units_of text = if text == 5 then 3 else if text == 6 then 4 else 1
 
--- two offsets as an array
+-- two offsets as a JSON array
 abbrev pub span : ℕ → ℕ → List ℕ
 span start end = codes "[" ++ decimal start ++ codes "," ++ decimal end ++ codes "]"
 

@@ -1,4 +1,4 @@
-//! A script made from a seed, as a source, and a sink that keeps a tally of the replies.
+//! A source that generates a script from a seed, and a sink that keeps a tally of the replies.
 #![tactic(auto)]
 
 mod line;
@@ -10,9 +10,9 @@ mod tally;
 pub use source::PlaySource;
 pub use tally::TallySink;
 
-/// The greatest number of lines of a script.
+/// The maximum number of lines of a script.
 pub const MOST_LINES: u32 = 10_000_000;
-/// What a draw multiplies the number by.
+/// The multiplier of the random number generator, which is linear congruential.
 pub(crate) const MULTIPLIER: u64 = 6364136223846793005;
-/// What a draw adds then.
+/// The increment of the random number generator.
 pub(crate) const INCREMENT: u64 = 1442695040888963407;

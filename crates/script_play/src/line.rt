@@ -7,7 +7,7 @@ ghost use Rattle.script_play.specs.Lines.{spelled, units_of, span, line_bytes};
 use arrayvec::ArrayVec;
 use itoa::Buffer;
 
-/// A line of the script, with its numbers. Offsets count units, and `text` is the number of one of eight texts.
+/// A line of the script with its parameters. Offsets are in units; `text` is the number of one of eight texts.
 #[derive(Clone, Copy, PartialEq, Eq, Debug)]
 pub(crate) enum Line {
     Open,
@@ -23,7 +23,7 @@ pub(crate) enum Line {
     Size,
 }
 
-/// The text of that number, as a line spells it.
+/// Returns text number `text` as a JSON string.
 fn spelled(text: u32) -> &'static [u8]
     ensures value { result.now ≡ spelled text }
     ensures short { length result.now ≤ 6 }
@@ -40,7 +40,7 @@ fn spelled(text: u32) -> &'static [u8]
     }
 }
 
-/// How many units that text has.
+/// Returns the number of units of text number `text`.
 pub(crate) fn units_of(text: u32) -> u32
     ensures value { result ≡ units_of text }
     ensures few { result ≤ 4 }
@@ -52,7 +52,7 @@ pub(crate) fn units_of(text: u32) -> u32
     }
 }
 
-/// The bytes of the line, with its LF.
+/// Returns the bytes of the line, including the LF.
 pub(crate) fn line_bytes(line: &Line) -> ArrayVec<u8, 128>
     ensures bytes { result.items ≡ line_bytes line.now }
     ensures some { 0 < array_vec_len result }
@@ -114,7 +114,7 @@ fn decos_bytes(at: u32) -> ArrayVec<u8, 128>
     bytes
 }
 
-/// These bytes.
+/// Copies the bytes into a new buffer.
 fn plain(text: &[u8]) -> ArrayVec<u8, 128>
     requires { length text.now ≤ 60 }
     ensures bytes { result.items ≡ text.now }
@@ -125,7 +125,7 @@ fn plain(text: &[u8]) -> ArrayVec<u8, 128>
     bytes
 }
 
-/// These bytes, and the two offsets behind them as an array.
+/// Returns the bytes, followed by the two offsets as a JSON array.
 fn with_span(text: &[u8], start: u32, end: u32) -> ArrayVec<u8, 128>
     requires { length text.now ≤ 60 }
     ensures bytes { result.items ≡ text.now ++ span start end }
@@ -137,7 +137,7 @@ fn with_span(text: &[u8], start: u32, end: u32) -> ArrayVec<u8, 128>
     bytes
 }
 
-/// Puts the text behind what is there.
+/// Appends the text.
 fn push(bytes: &mut ArrayVec<u8, 128>, text: &[u8])
     requires { array_vec_len bytes.old + length text.now ≤ 128 }
     ensures bytes { bytes.new.items ≡ bytes.old.items ++ text.now }
@@ -146,7 +146,7 @@ fn push(bytes: &mut ArrayVec<u8, 128>, text: &[u8])
     bytes.try_extend_from_slice(text).unwrap();
 }
 
-/// Puts the number in plain decimals behind what is there.
+/// Appends the number in plain decimals.
 fn push_number(bytes: &mut ArrayVec<u8, 128>, number: u32)
     requires { array_vec_len bytes.old + 10 ≤ 128 }
     ensures bytes { bytes.new.items ≡ bytes.old.items ++ decimal number }
@@ -157,7 +157,7 @@ fn push_number(bytes: &mut ArrayVec<u8, 128>, number: u32)
     push(bytes, buffer.format(number).as_bytes());
 }
 
-/// Puts the two offsets behind what is there, as an array.
+/// Appends the two offsets as a JSON array.
 fn push_span(bytes: &mut ArrayVec<u8, 128>, start: u32, end: u32)
     requires { array_vec_len bytes.old + 23 ≤ 128 }
     ensures bytes { bytes.new.items ≡ bytes.old.items ++ span start end }

@@ -1,4 +1,4 @@
-//! How the lines of a script are drawn.
+//! The random choice of the lines of a script.
 
 ghost use Rattle.std.specs.Prelude.{◌≡◌, ◌+◌, ◌^◌, ◌<◌, ◌≤◌};
 ghost use Rattle.script_play.specs.Draws.{next, drawn};
@@ -7,14 +7,14 @@ ghost use Rattle.script_play.specs.Script.{drawn_span, edit_line, decorate_line,
 use crate::line::{Line, units_of};
 use crate::{INCREMENT, MULTIPLIER};
 
-/// What the next line of a script comes from.
+/// The state that determines the next lines of a script.
 #[derive(Clone, Copy, Debug)]
 pub(crate) struct Play {
-    /// The number that draws come from.
+    /// The state of the random number generator.
     pub x: u64,
-    /// The units of the text.
+    /// The number of units of the text.
     pub units: u32,
-    /// Whether a redo is to follow.
+    /// Whether the next line is a redo.
     pub pending: bool,
 }
 
@@ -89,7 +89,7 @@ impl Play {
         }
     }
 
-    /// Draws where a span of fewer units than this starts in the text, and how many units it has.
+    /// Draws the start and the length of a span of the text. The length is less than `below`.
     fn draw_span(&mut self, below: u32) -> (u32, u32)
         requires units { self.old.units < 2 ^ 26 }
         requires some { 0 < below }
@@ -102,7 +102,7 @@ impl Play {
         (start, count)
     }
 
-    /// Draws an offset of the text, which may be its end.
+    /// Draws an offset of the text, its end included.
     fn draw_offset(&mut self) -> u32
         requires { self.old.units < 2 ^ 26 }
         ensures offset { result ≡ drawn (next self.old.x) (self.old.units + 1) }
@@ -112,7 +112,7 @@ impl Play {
         self.draw(self.units + 1)
     }
 
-    /// Draws a number below this one, which is 1 or more.
+    /// Draws a number less than `below`, which is at least 1.
     fn draw(&mut self, below: u32) -> u32
         requires { 0 < below }
         ensures number { result ≡ drawn (next self.old.x) below }
@@ -124,7 +124,7 @@ impl Play {
     }
 }
 
-/// The number after a draw.
+/// Returns the state of the random number generator after a draw.
 fn next(x: u64) -> u64
     ensures { result ≡ next x }
 {

@@ -1,4 +1,4 @@
-//! A source that plays the script of a seed.
+//! A source that generates a script from a seed.
 
 ghost use Rattle.std.specs.Prelude.{◌≡◌, IsOk, Some};
 ghost use Rattle.script_streams.specs.Streams.{Reads};
@@ -9,7 +9,8 @@ use crate::supply::Supply;
 use script_streams::{Failed, Source};
 use std::marker::Model;
 
-/// Gives the script of a count and a seed, and tells what is left of it. No read of it fails, and none takes memory.
+/// A source of the script for a number of lines and a seed. Contracts know the bytes that are left. Reads never fail and
+/// never allocate.
 #[derive(Drop)]
 pub struct PlaySource {
     supply: Supply,
@@ -33,7 +34,7 @@ impl Model for PlaySource {
 }
 
 impl PlaySource {
-    /// A source of the script of `count` lines, at most [`MOST_LINES`](crate::MOST_LINES), whose draws begin with `seed`.
+    /// Creates a source of the script of `count` lines, at most [`MOST_LINES`](crate::MOST_LINES), drawn from `seed`.
     pub fn new(count: u32, seed: u64) -> PlaySource
         requires { IsCount count }
         ensures { result ≡ fresh_source (Some (script count seed)) }

@@ -1,4 +1,4 @@
-//! A script that is given piece by piece.
+//! A script that is generated and read piece by piece.
 
 ghost use Rattle.std.specs.Prelude.{◌≡◌, ◌+◌, ◌*◌, ◌<◌, ◌≤◌, ◌++◌, [], length, min, take};
 ghost use Rattle.arrayvec.specs.ArrayVec.{array_vec_len};
@@ -10,7 +10,7 @@ use crate::play::Play;
 use arrayvec::ArrayVec;
 use script_streams::copy_front;
 
-/// The line that is being given, and what the lines after it come from.
+/// The current line, of which `given` bytes were read, and the state from which the `lines_left` lines after it are drawn.
 #[derive(Drop)]
 pub(crate) struct Supply {
     pub line: ArrayVec<u8, 128>,
@@ -49,7 +49,8 @@ impl Supply {
         }
     }
 
-    /// Gives what is left, as far as the buffer reaches.
+    /// Copies the next bytes of the script into the buffer and returns their number. It is less than the length of the buffer only
+    /// at the end of the script.
     pub(crate) fn give(&mut self, buf: &mut [u8]) -> usize
         ensures within { result ≤ length buf.new }
         ensures given { left_of self.old ≡ take result buf.new ++ left_of self.new }
@@ -66,7 +67,8 @@ impl Supply {
         count
     }
 
-    /// Gives something of what is left, where the buffer is not empty.
+    /// Copies some of the next bytes into the buffer and returns their number. It is 0 only for an empty buffer or at the end of the
+    /// script.
     fn give_some(&mut self, buf: &mut [u8]) -> usize
         ensures within { result ≤ length buf.new }
         ensures given { left_of self.old ≡ take result buf.new ++ left_of self.new }
@@ -78,7 +80,7 @@ impl Supply {
         count
     }
 
-    /// Makes the next line where the last one is given.
+    /// Draws the next line, if the current one was read to its end and lines are left.
     fn refill(&mut self)
         ensures left { left_of self.new ≡ left_of self.old }
         ensures end { self.new.given ≡ array_vec_len self.new.line → self.new.lines_left ≡ 0 }

@@ -1,4 +1,4 @@
-//! A sink that counts and sums the bytes that it takes.
+//! A sink that counts and sums the bytes written to it.
 
 ghost use Rattle.std.specs.Prelude.{◌≡◌, ◌%◌, ◌^◌, length, sum, Ok};
 ghost use Rattle.script_streams.specs.Streams.{Writes};
@@ -8,7 +8,7 @@ ghost use Rattle.script_play.specs.Tallies.{tally_sink};
 use script_streams::{Failed, Sink};
 use std::marker::Model;
 
-/// Keeps the number and the sum of the bytes that it took, both modulo 2^32, and nothing else. No write of it fails.
+/// A sink that keeps only the number and the sum of the bytes written, both modulo 2^32. Writes never fail.
 #[derive(Drop)]
 pub struct TallySink {
     count: u32,
@@ -30,14 +30,14 @@ impl TallySink {
         TallySink { count: 0, sum: 0 }
     }
 
-    /// How many bytes it took, modulo 2^32.
+    /// Returns the number of bytes written, modulo 2^32.
     pub fn count(&self) -> u32
         ensures { result ≡ self.now.count }
     {
         self.count
     }
 
-    /// The sum of the bytes that it took, modulo 2^32.
+    /// Returns the sum of the bytes written, modulo 2^32.
     pub fn sum(&self) -> u32
         ensures { result ≡ self.now.sum }
     {
@@ -58,14 +58,14 @@ impl Sink for TallySink {
     }
 }
 
-/// The number of the bytes, modulo 2^32.
+/// Returns the number of bytes, modulo 2^32.
 fn count_of(bytes: &[u8]) -> u32
     ensures { result ≡ length bytes.now % 2 ^ 32 }
 {
     (bytes.len() as u64 % (1 << 32)) as u32
 }
 
-/// The sum of the bytes, modulo 2^32.
+/// Returns the sum of the bytes, modulo 2^32.
 fn sum_of(bytes: &[u8]) -> u32
     ensures { result ≡ sum bytes.now % 2 ^ 32 }
 {

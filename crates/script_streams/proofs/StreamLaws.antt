@@ -1,4 +1,4 @@
--- What came off a source and went to a sink, one call after another.
+-- The bytes read from a source and written to a sink by consecutive calls.
 use Rattle.std.proofs.Common.{◌≡◌, ℕ, ◌+◌, ◌^◌, ◌%◌, ◌<◌, List, [], ◌++◌, sum, take, drop, length, length-append, Option, Some, None, append_assoc, refl, ap, sym, ◌∙◌, subst, arith}
 use Rattle.std.proofs.lemmas.List.{append-nil, take-append-drop, nil_from_length}
 use Rattle.std.proofs.lemmas.List.Sums.{sum_by-append}
@@ -31,7 +31,7 @@ tally_after-append t xs ys =
     let total : ((t.sum + sum xs) % 2 ^ 32 + sum ys) % 2 ^ 32 ≡ (t.sum + sum (xs ++ ys)) % 2 ^ 32 = omega (arith, sum_by-append (λ (x : ℕ). x) xs ys) in
     cc
 
--- what is after some bytes is a tally
+-- the result of `tally_after` is a tally
 pub tally_after-is : (t : Tally) (xs : List ℕ) → IsTally (tally_after t xs)
 tally_after-is t xs = record { count = omega arith; sum = omega arith }
 
@@ -62,7 +62,7 @@ Wrote-append a b c xs ys first second = record {
       ∙ ap Some (tally_after-append before xs ys);
 }
 
--- of the text, what stands before rest was written
+-- the part of the text before `rest` was written
 pub record IsWrittenTo (old new : SinkState) (text rest : List ℕ) : Type 0 where
   pub written : List ℕ
   pub whole : text ≡ written ++ rest

@@ -1,4 +1,4 @@
--- A writer around a write.
+-- A writer before and after a write.
 use Rattle.std.proofs.Common.{◌≡◌, ℕ, List, [], ◌++◌, Option, Some, None, Result, Ok, Err, take, ◌∙◌, ap, refl, sym, append-nil}
 use Rattle.std.proofs.KnownBytes.{Keeps-trans}
 use Rattle.std.specs.Prelude.{is_some}
@@ -23,7 +23,7 @@ Appends-from_Keeps None b kept = tt
 Appends-from_Keeps (Some x) None kept = absurd kept
 Appends-from_Keeps (Some x) (Some y) kept = kept ∙ sym (append-nil x)
 
--- a writer that tells at all times or at none tells what a sink does
+-- a writer whose contents are known at all times or never takes bytes as a sink does
 pub Took-from_Appends : (a b : Option (List ℕ)) (bytes : List ℕ) → is_some a ≡ is_some b → Appends a b bytes → Took a b bytes
 Took-from_Appends None None bytes same appended = tt
 Took-from_Appends None (Some y) bytes same appended = cc
@@ -35,7 +35,7 @@ told_after None b before bytes same is took = cc
 told_after (Some x) None before bytes same is took = cc
 told_after (Some x) (Some y) before bytes same is took = cc
 
--- a sink over such a writer still tells what it told
+-- a sink over such a writer keeps its known bytes known
 pub Wrote-over_writer : {W : Type 0} (contents : W → Option (List ℕ)) (old new : W) (faults faults' : ℕ) (bytes : List ℕ)
     → TellsAlwaysOrNever contents → Took (contents old) (contents new) bytes
     → Wrote (record { taken = contents old; room = 0; faults = faults; tally = None }) (record { taken = contents new; room = 0; faults = faults'; tally = None }) bytes

@@ -1,4 +1,4 @@
-//! Where a script comes from and where its replies go: the traits, and streams over std's readers and writers.
+//! Traits for the source of a script and the sink of its replies, and implementations over std's readers and writers.
 #![tactic(auto)]
 
 mod front;
@@ -17,23 +17,23 @@ pub use whole::write_whole;
 #[error("a read or a write failed")]
 pub struct Failed;
 
-/// Gives the bytes of a script, piece by piece.
+/// A source of the bytes of a script.
 pub trait Source {
     ghost state: { Self → SourceState };
 
-    /// Puts the next bytes at the front of the buffer, and answers how many. 0 for a buffer that is not empty is the
-    /// end. A read that fails gives nothing.
+    /// Reads the next bytes into the front of the buffer, and returns their number. 0 for a non-empty buffer means the
+    /// end of the script. A read that fails consumes nothing.
     fn read(&mut self, buf: &mut [u8]) -> Result<usize, Failed>
         ensures { Reads result (state self.old) (state self.new) buf.new };
 }
 
-/// Takes the bytes of replies, piece by piece. A sink that tells what it took goes on telling it while that fits its
-/// room.
+/// A sink for the bytes of replies. If contracts know the bytes written to it, they still do while these are at most `room`
+/// bytes.
 pub trait Sink {
     ghost state: { Self → SinkState };
 
-    /// Takes a front of the piece, and answers how many bytes that is. A write that fails may have taken a front too;
-    /// one that takes nothing of a piece that is not empty counts as failed.
+    /// Writes a prefix of the piece, and returns its length. A write that fails may have written a prefix too. A write
+    /// of nothing counts as failed, unless the piece is empty.
     fn write(&mut self, piece: &[u8]) -> Result<usize, Failed>
         ensures { Writes result (state self.old) (state self.new) piece.now };
 }

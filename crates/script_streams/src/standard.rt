@@ -1,4 +1,4 @@
-//! Sources and sinks over std's readers and writers: where the outside is trusted.
+//! Sources and sinks over std's readers and writers, whose behaviour is trusted.
 ghost use Rattle.std.specs.Prelude.{◌≡◌, ◌<◌, None};
 ghost use Rattle.std.specs.Io.{ReadsAtMost, WritesAtMost};
 ghost use Rattle.std.specs.Io.KnownBytes.{WriteAppends};
@@ -10,8 +10,8 @@ use std::io;
 use std::io::{ErrorKind, Read, Write};
 use std::marker::Model;
 
-/// Gives what a reader gives, and tells nothing of what is left. An error of the reader is a fault, but a read that a
-/// signal interrupts is tried again.
+/// A source over a reader. Contracts know nothing of the bytes that are left. An error of the reader counts as a fault,
+/// but a read interrupted by a signal is tried again.
 #[derive(Drop)]
 pub struct StdSource<R> {
     reader: R,
@@ -35,7 +35,7 @@ impl<R> Model for StdSource<R> {
 }
 
 impl<R> StdSource<R> {
-    /// A source over this reader, of which nothing counts as given yet.
+    /// Creates a source over the reader. Its counts of bytes and faults begin at 0.
     pub fn new(reader: R) -> StdSource<R>
         ensures { result ≡ fresh_source None }
     {
@@ -67,7 +67,7 @@ impl<R: Read> Source for StdSource<R> {
     }
 }
 
-/// Reads again where a signal interrupts a read.
+/// Reads, and tries again after a read interrupted by a signal.
 fn read_past_signals<R: Read>(reader: &mut R, buf: &mut [u8]) -> io::Result<usize>
     ensures { ReadsAtMost result buf.new }
 {
@@ -80,9 +80,9 @@ fn read_past_signals<R: Read>(reader: &mut R, buf: &mut [u8]) -> io::Result<usiz
     Err(io::Error::from(ErrorKind::Interrupted))
 }
 
-/// Hands on to a writer, and tells what the writer tells, with no room of its own. Each piece is flushed before the
-/// write answers. An error of the writer is a fault, and so is an answer of 0 for a piece that is not empty, but a
-/// write that a signal interrupts is tried again.
+/// A sink over a writer. Contracts know the bytes written if they know those of the writer; the room is 0. Each piece is
+/// flushed before the write returns. An error of the writer counts as a fault, and so does a write of 0 bytes of a
+/// non-empty piece, but a write interrupted by a signal is tried again.
 #[derive(Drop)]
 pub struct StdSink<W: Write> {
     writer: W,
@@ -107,7 +107,7 @@ impl<W: Write> Model for StdSink<W> {
 }
 
 impl<W: Write> StdSink<W> {
-    /// A sink over this writer, which tells the bytes that it holds at all times, or at none, as standard output.
+    /// Creates a sink over the writer. The contents of the writer must be known at all times, or never, as for standard output.
     pub fn new(writer: W) -> StdSink<W>
         requires { TellsAlwaysOrNever W.contents }
         ensures { result ≡ fresh_sink 0 (W.contents writer) }
@@ -115,7 +115,7 @@ impl<W: Write> StdSink<W> {
         StdSink { writer, faults: 0 }
     }
 
-    /// The writer, with all that the sink took.
+    /// Returns the writer, with all bytes written to the sink.
     pub fn into_inner(self) -> W
         ensures { W.contents result ≡ self.taken }
     {
@@ -142,7 +142,7 @@ impl<W: Write> Sink for StdSink<W> {
     }
 }
 
-/// Writes a front of the piece, and flushes.
+/// Writes a prefix of the piece, and flushes the writer.
 fn write_flushed<W: Write>(writer: &mut W, piece: &[u8]) -> io::Result<usize>
     requires { TellsAlwaysOrNever W.contents }
     ensures bound { WritesAtMost result piece.now }
@@ -153,7 +153,7 @@ fn write_flushed<W: Write>(writer: &mut W, piece: &[u8]) -> io::Result<usize>
     Ok(taken)
 }
 
-/// Writes again where a signal interrupts a write.
+/// Writes, and tries again after a write interrupted by a signal.
 fn write_past_signals<W: Write>(writer: &mut W, piece: &[u8]) -> io::Result<usize>
     ensures bound { WritesAtMost result piece.now }
     ensures bytes { WriteAppends (W.contents writer.old) (W.contents writer.new) result piece.now }

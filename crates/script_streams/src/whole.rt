@@ -1,10 +1,10 @@
-//! A text that is written whole.
+//! Writing a whole text to a sink.
 
 ghost use Rattle.script_streams.specs.Streams.{WritesWhole};
 
 use crate::{Failed, Sink};
 
-/// Writes the whole text. After a failure the sink took a front of it.
+/// Writes the whole text. After a failure a prefix of it, possibly empty, is written.
 pub fn write_whole<K: Sink>(out: &mut K, text: &[u8]) -> Result<(), Failed>
     ensures { WritesWhole result (K.state out.old) (K.state out.new) text.now }
 {

@@ -1,4 +1,4 @@
--- A replace of all that is found: one batch, which only a limit refuses, and which one undo takes back.
+-- The replacement of all occurrences: one batch, which only a limit refuses, and which one undo reverts.
 use Rattle.std.proofs.Common.{◌≡◌, ◌↔◌, ◌⊎◌, ℕ, ◌+◌, ◌-◌, ◌*◌, ◌<◌, ◌≤◌, Bool, true, false, not, if◌then◌else◌, nat_lt, nat_le, List, [], ◌∷◌, ◌++◌, length, map, take, drop, Option, Some, None, Result, Ok, Err, refl, ap, sym, subst, ◌∙◌, inl, inr, arith}
 use Rattle.std.specs.List.{All}
 use Rattle.std.proofs.lemmas.Bool.{le-ltb, lt-ltb, and_from, or_from}
@@ -81,7 +81,7 @@ replacing_applied at x [] text = refl
 replacing_applied at x (span ∷ spans) text =
     ap (λ l. take (span.start - at) (drop at x) ++ text ++ l) (replacing_applied span.end x spans text)
 
--- what a batch with ops in order and apart is checked as
+-- the result of checking a batch whose ops are in order and apart
 checked_standing : (kind : Kind) (x : List ℕ) (ops : List Op) → has_bad_span kind x ops ≡ false → StandFrom 0 x ops
     → checked_ops kind x ops ≡ (if nat_lt most_units (length (applied_from 0 x ops)) then Err refused.limit else Ok ops)
 checked_standing kind x ops good standing = rw (good, sorted_ops_standing 0 x ops standing, no_overlap 0 x ops standing) refl
@@ -106,7 +106,7 @@ checked_replacing kind x sought text some =
 
 -- ---- the rule, by its cases
 
--- what the rule answers where something is found: the new document, unless a limit refuses it
+-- the result of the rule if something is found: the new document, unless a limit refuses it
 abbrev unless_limit : Bool → Bool → FlatState → Result (Option FlatState) FlatRefusal
 unless_limit too_long last new = if too_long then Err limit else (if last then Err limit else Ok (Some new))
 
@@ -218,7 +218,7 @@ replaced_taken_back f g sought text some done =
 
 -- ---- how long the new text is
 
--- from a place on: what is found is no more than what is there
+-- from an offset on: the occurrences have at most as many units as the rest of the text
 found_within : (kind : Kind) (at : ℕ) (x sought : List ℕ) (spans : List Span) → at ≤ length x → AreApart at spans → All (IsOccurrence kind x sought) spans
     → at + length spans * length sought ≤ length x
 found_within kind at x sought [] within apart each = omega (arith, within)
@@ -271,7 +271,7 @@ replace_too_long f sought text some fits long =
       | inr is ↦ is ∙ ap (λ b. unless_limit b (nat_le greatest_version f.version) (after_replace f sought text)) (lt-ltb _ _ long)
     ]
 
--- ---- a replace is an edit between two closings
+-- ---- a replacement is an edit with the undo step closed before and after it
 
 pub nothing_as_edit : (f : FlatState) (sought text : List ℕ) → replacing (flat_find f sought) text ≡ [] → flat_replace_all f sought text ≡ Ok None
 nothing_as_edit f sought text none = ap (edited_alone f) none

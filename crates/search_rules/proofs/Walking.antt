@@ -1,4 +1,4 @@
--- The walk of a search: it finds each occurrence that overlaps none before it, and no other.
+-- The walk of a search: it finds exactly the occurrences that do not overlap an earlier found one.
 use Rattle.std.proofs.Common.{◌≡◌, ℕ, zero, suc, ◌+◌, ◌-◌, ◌<◌, ◌≤◌, true, false, List, [], ◌∷◌, length, drop, get_or, add-zero, refl, ap, sym, ◌∙◌, inl, inr, arith}
 use Rattle.std.specs.List.{All, list_any}
 use Rattle.std.proofs.lemmas.Bool.{lt-ltb, le-leb, leb-true, and_parts, and_from, or_left, or_right, cases_Bool, cases_lt}
@@ -30,7 +30,7 @@ first_unit kind x sought place some there =
     sym (get_or-drop place x 0 0 ∙ ap (λ (k : ℕ). get_or x k 0) (add-zero place))
     ∙ front_reads 0 (drop place x) sought (drop (length sought) (drop place x)) goes_on 0 some
 
--- none stands where too few units are left
+-- the sought units do not occur where too few units are left
 pub stands_not : (kind : Kind) (x sought : List ℕ) (place : ℕ) → length x < place + length sought → stands_at kind x sought place ≡ false
 stands_not kind x sought place short =
     elim (cases_Bool (stands_at kind x sought place)) [
@@ -88,7 +88,7 @@ module _ (kind : Kind) (x sought : List ℕ) (some : 0 < length sought) where
       enough_steps place (length x - place) (suc (length x - (place + 1))) (omega arith) (omega arith)
       ∙ step_on kind x sought place (length x - (place + 1)) none
 
-  -- over so many places at which they do not stand
+  -- the search passes offsets at which they do not occur
   none_over : (place many : ℕ) → ((k : ℕ) → place ≤ k → k < place + many → stands_at kind x sought k ≡ false)
       → occurrences_after kind x sought place ≡ occurrences_after kind x sought (place + many)
   none_over place zero none = ap (occurrences_after kind x sought) (omega arith)
@@ -129,7 +129,7 @@ module _ (kind : Kind) (x sought : List ℕ) (some : 0 < length sought) where
         | inr none ↦ rw none (each_from (place + 1) steps)
       ]
 
-  -- a place at which the units stand is passed by a span alone
+  -- an offset at which the units occur is passed only by a span
   every_from : (place steps at : ℕ) → stands_at kind x sought at ≡ true → place ≤ at → at < place + steps
       → list_any (is_within at) (occurrences_from kind x sought place steps) ≡ true
   every_from place zero at there above below = absurd (omega arith)

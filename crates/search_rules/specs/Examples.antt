@@ -10,7 +10,7 @@ use Rattle.search_rules.specs.Replacing.{flat_replace_all, replaced}
 abbrev span : ℕ → ℕ → Span
 span start end = record { start = start; end = end }
 
--- from left to right, none over the one before it
+-- from left to right, without overlaps
 two_in_four : occurrences Mixed (codes "aaaa") (codes "aa") ≡ span 0 2 ∷ span 2 4 ∷ []
 two_in_four = refl
 
@@ -36,7 +36,7 @@ an_ending = refl
 a_feed_of_a_mixed_text : occurrences Mixed (codes "a\r\nb") (codes "\n") ≡ span 2 3 ∷ []
 a_feed_of_a_mixed_text = refl
 
--- nor between two surrogates that are a pair
+-- nor inside a surrogate pair
 no_half_of_a_pair : occurrences Mixed (0xD83D ∷ 0xDE00 ∷ []) (0xDE00 ∷ []) ≡ []
 no_half_of_a_pair = refl
 

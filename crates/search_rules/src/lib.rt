@@ -1,3 +1,3 @@
-//! Where a text stands in another one, and what it is to replace it everywhere: definitions and their laws, which contracts
-//! cite. `model_find` has the search.
+//! Specifies search and replace: the occurrences of a text in another one, and the result of replacing them all. Contracts
+//! cite these definitions and laws; `model_find` implements the search.
 #![tactic(auto)]

@@ -124,7 +124,7 @@ one-edit_part op =
 
 -- ---- replies
 
--- what is promised of a flat reply
+-- the properties of a flat reply
 pub record IsFlatReply (reply : List ℕ) : Type 0 where
   pub line : IsOneLine reply
   pub sure : reply ≡ memory_reply → ⊥

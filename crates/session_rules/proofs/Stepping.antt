@@ -1,4 +1,4 @@
--- One request on a session, and on a smaller one that has the documents of a set in common, with what follows them.
+-- One request on a session, and on a smaller one that has the same documents of a set with the same followers.
 use Rattle.std.proofs.Common.{◌≡◌, ℕ, Bool, true, false, if◌then◌else◌, List, [], ◌∷◌, length, Option, Some, None, Result, Ok, Err, refl, ap, ap₂, subst, ◌∙◌}
 use Rattle.text_rules.specs.declared.Op.{Op}
 use Rattle.decoration_rules.specs.Refusals.{DecoRefusal}
@@ -52,7 +52,7 @@ module _ (set : Docs) (s t : FlatSession) (r : Related set s t) where
   goes_read false x y same = record { related = r; reply = same }
 
   module _ (n : ℕ) where
-    -- a change of what follows the document
+    -- a change of the follower of the document
     goes_following : (all : Bool) (a b : List ℕ × FlatFollower) → set n ≡ all → (all ≡ true → a ≡ b)
         → GoesOn set t all (following s n a) (following t n b)
     goes_following true a b e same =
@@ -149,7 +149,7 @@ module _ (set : Docs) (s t : FlatSession) (r : Related set s t) (n : ℕ) (all :
   follower_same : all ≡ true → follower_in s.followers n ≡ follower_in t.followers n
   follower_same on = r.followers.same n (e ∙ on)
 
-  -- a reply that the document decides, or what follows it
+  -- a reply that depends only on the document and its follower
   asked : (reply : FlatState → List ℕ) → GoesOn set t all (reply (doc_in s.documents n), s) (reply (doc_in t.documents n), t)
   asked reply = goes_read set s t r all (reply (doc_in s.documents n)) (reply (doc_in t.documents n)) (λ on. ap reply (doc_same on))
 

@@ -1,4 +1,4 @@
--- Documents that have nothing to do with others: the lines on them are answered as if there were no other lines.
+-- Sets of documents that are independent of all others: the lines on them are answered as if there were no other lines.
 use Rattle.std.specs.Prelude.{◌≡◌, ℕ, Bool, true, nat_le, if◌then◌else◌, List, [], ◌∷◌, map, length, Option, Some, None}
 use Rattle.std.specs.List.{All, list_any}
 use Rattle.undo_rules.specs.declared.Tag.{Tag}
@@ -16,23 +16,23 @@ use Rattle.session_rules.specs.Script.{is_too_long}
 abbrev pub Docs : Type 0
 Docs = ℕ → Bool
 
--- these documents are all in the set, or none is
+-- all of these documents are in the set, or none
 abbrev pub AllOrNone : Docs → List ℕ → Type 0
 AllOrNone set docs = (all : Bool) × All (λ n. set n ≡ all) docs
 
--- a session has a document, and what follows it, for each number
+-- the session has a document and a follower for each number
 pub record HasAllDocs (s : FlatSession) : Type 0 where
   pub documents : length s.documents ≡ DOC_COUNT
   pub followers : length s.followers ≡ DOC_COUNT
 
--- the documents of the set, and what follows them, are the same in both
+-- both sessions have the same documents of the set, with the same followers
 abbrev pub AgreeOn : Docs → FlatSession → FlatSession → Type 0
 AgreeOn set s t =
     (n : ℕ) → set n ≡ true → (doc_in s.documents n ≡ doc_in t.documents n) × (follower_in s.followers n ≡ follower_in t.followers n)
 
 -- ---- the documents of a line
 
--- none, where one of the numbers is that of no document
+-- these numbers; none if one of them is out of range
 abbrev pub if_there : List ℕ → List ℕ
 if_there docs = if list_any (λ n. nat_le DOC_COUNT n) docs then [] else docs
 
@@ -41,7 +41,7 @@ docs_of_request None = []
 docs_of_request (Some (One n command)) = if_there (n ∷ [])
 docs_of_request (Some (Joint edits)) = if_there (map (λ (edit : DocEdit). edit.doc) edits)
 
--- those that it names; none, where it is no request
+-- the documents that the line names; none if the line is no request
 abbrev pub docs_of_line : List ℕ → List ℕ
 docs_of_line line = if is_too_long line then [] else docs_of_request (request_of line)
 
@@ -53,7 +53,7 @@ abbrev pub lines_on : Docs → List (List ℕ) → List (List ℕ)
 lines_on set [] = []
 lines_on set (line ∷ lines) = if is_on set line then line ∷ lines_on set lines else lines_on set lines
 
--- the replies to them, of the replies to all lines
+-- the replies to these lines, out of the replies to all lines
 abbrev pub replies_on : Docs → List (List ℕ) → List (List ℕ) → List (List ℕ)
 replies_on set [] replies = []
 replies_on set (line ∷ lines) [] = []
@@ -65,11 +65,11 @@ replies_on set (line ∷ lines) (reply ∷ replies) =
 abbrev pub tags_in : FlatGroup → ℕ → List Tag
 tags_in g n = tags_of (all_steps (doc_in g n).history)
 
--- a tag stands in members of it alone
+-- each tag in a document has this document as a member
 abbrev pub StandsInMembers : FlatGroup → Type 0
 StandsInMembers g = (n : ℕ) → All (λ (tag : Tag). is_member n tag ≡ true) (tags_in g n)
 
--- the set has all members of the tag, or none
+-- all members of the tag are in the set, or none
 abbrev pub IsWhole : Docs → Tag → Type 0
 IsWhole set tag = (all : Bool) × ((n : ℕ) → is_member n tag ≡ true → set n ≡ all)
 

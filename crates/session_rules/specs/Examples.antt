@@ -19,7 +19,7 @@ use Rattle.session_rules.specs.Session.{FlatSession, new_session}
 use Rattle.session_rules.specs.Step.{brackets_answer, match_answer, level_answer, spans_reply, step, request_answer}
 use Rattle.session_rules.specs.Script.{all_lines, whole_lines, has_reply}
 
--- a session with a new document 0 of this text, whose lines end as they came
+-- a session with a new document 0 of this text, whose line endings are kept
 abbrev text : List ℕ → FlatSession
 text units = record { documents = with_doc new_group 0 (new_document units standard_scanner Mixed); followers = new_session.followers }
 
@@ -99,7 +99,7 @@ position_inside_a_break : ask (text (codes "ab\r\ncd")) (command.Position 3)
 unfolding digits
 position_inside_a_break = refl
 
--- how brackets are told, whatever text they are of
+-- the reply with brackets, independent of any text
 a_bracket_is_told :
     brackets_answer (Ok (record { place = record { lines = 0; columns = 2 }; len = 1; kind = 0; status = PairedClosing; level = 0 } ∷ []))
     ≡ codes "ok 1 3 1 0 c 0\n"
@@ -114,7 +114,7 @@ a_level_is_told : level_answer (Ok 2) ≡ codes "ok 2\n"
 unfolding digits
 a_level_is_told = refl
 
--- where a text stands, whatever it is
+-- the reply with spans, independent of any text
 two_spans_are_told :
     spans_reply (record { start = 0; end = 2 } ∷ record { start = 9; end = 11 } ∷ []) ≡ codes "ok 0 2 9 11\n"
 unfolding digits

@@ -1,4 +1,4 @@
--- A script, line by line, and the replies that may answer it.
+-- The lines of a script, and the replies that are allowed for them.
 use Rattle.std.specs.Prelude.{◌≡◌, ◌⊎◌, ℕ, codes, ◌^◌, ◌||◌, ◌==◌, nat_lt, not, Bool, false, MatchBool, if◌then◌else◌, List, [], ◌∷◌, ◌++◌, length, Option, Some, None}
 use Rattle.std.specs.List.{All, list_all, flat_map}
 use Rattle.script_lines.specs.declared.reason.Refusal.TheVariants.{Syntax, Limit}
@@ -8,7 +8,7 @@ use Rattle.script_lines.specs.Replies.{refusal_reply}
 use Rattle.session_rules.specs.Session.{FlatSession}
 use Rattle.session_rules.specs.Step.{request_answer, Answers}
 
--- the lines that LF ends, and what comes after the last LF
+-- the lines ended by LF, without it, and the bytes after the last LF
 pub record Lines : Type 0 where
   pub ended : List (List ℕ)
   pub rest : List ℕ
@@ -25,14 +25,14 @@ abbrev pub cut : List ℕ → Lines
 cut [] = record { ended = []; rest = [] }
 cut (byte ∷ bytes) = after_byte byte (cut bytes)
 
--- bytes with no LF among them
+-- the bytes contain no LF
 abbrev pub IsInOneLine : List ℕ → Type 0
 IsInOneLine bytes = cut bytes ≡ record { ended = []; rest = bytes }
 
 abbrev pub whole_lines : List ℕ → List (List ℕ)
 whole_lines script = (cut script).ended
 
--- what comes after the last LF is a line too, if it is not empty
+-- the bytes after the last LF are a line too, unless there are none
 abbrev pub last_line : List ℕ → List (List ℕ)
 last_line [] = []
 last_line (byte ∷ bytes) = (byte ∷ bytes) ∷ []
@@ -40,7 +40,7 @@ last_line (byte ∷ bytes) = (byte ∷ bytes) ∷ []
 abbrev pub all_lines : List ℕ → List (List ℕ)
 all_lines script = whole_lines script ++ last_line (cut script).rest
 
--- the most bytes that a line may have, the LF not counted
+-- the maximum number of bytes of a line, the LF not counted
 abbrev pub most_line_bytes : ℕ
 most_line_bytes = 2 ^ 24
 
@@ -58,19 +58,19 @@ abbrev pub requested : FlatSession → Option Request → List ℕ × FlatSessio
 requested s None = (refusal_reply Syntax, s)
 requested s (Some request) = request_answer s request
 
--- the flat reply to a line that has one, and the session after it
+-- the flat reply to a line that gets a reply, and the session after it
 abbrev pub turn : FlatSession → List ℕ → List ℕ × FlatSession
 turn f line = if is_too_long line then (refusal_reply Limit, f) else requested f (request_of line)
 
--- a blank line has no reply, unless it is too long
+-- every line gets a reply, except a blank line that is not too long
 abbrev pub has_reply : List ℕ → Bool
 has_reply line = is_too_long line || not (is_blank line)
 
--- a line is answered by the flat reply, or by `! memory` with all as before; one that has no reply changes nothing
+-- A line gets the flat reply, or `! memory` with the session unchanged. A line without reply leaves the session unchanged.
 abbrev pub Turn : FlatSession → List ℕ → List ℕ → FlatSession → Type 0
 Turn old line reply new = MatchBool (has_reply line) (Answers (turn old line) old reply new) ((reply ≡ []) × (new ≡ old))
 
--- these replies answer these lines, one by one
+-- these replies answer these lines one by one; a line without reply has an empty one
 abbrev pub Transcript : FlatSession → List (List ℕ) → List (List ℕ) → FlatSession → Type 0
 Transcript old [] [] new = new ≡ old
 Transcript old (line ∷ lines) (reply ∷ replies) new =
@@ -78,16 +78,16 @@ Transcript old (line ∷ lines) (reply ∷ replies) new =
 Transcript old [] (reply ∷ replies) new = ⊥
 Transcript old (line ∷ lines) [] new = ⊥
 
--- the replies one after another
+-- the concatenation of the replies
 abbrev pub written : List (List ℕ) → List ℕ
 written replies = flat_map (λ reply. reply) replies
 
--- LF ends the reply, and there is no other LF in it
+-- the reply ends with LF and contains no other LF
 abbrev pub IsOneLine : List ℕ → Type 0
 IsOneLine reply = (text : List ℕ) × IsInOneLine text × (reply ≡ text ++ codes "\n")
 
--- What was written leaves no choice: each reply is one line, or nothing; and where other replies answer the same lines
--- from the same session, and the same bytes are written, they are the same replies, with the same session at the end.
+-- The bytes written determine the replies: each reply is one line or empty; and if other replies answer the same lines from
+-- the same session with the same bytes written, then they are the same replies, with the same session at the end.
 pub record IsDecided (start : FlatSession) (lines replies : List (List ℕ)) (end : FlatSession) : Type 0 where
   pub one_line : All (λ reply. (reply ≡ []) ⊎ IsOneLine reply) replies
   pub only : (others : List (List ℕ)) (other : FlatSession) → Transcript start lines others other → written others ≡ written replies

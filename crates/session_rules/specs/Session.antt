@@ -1,28 +1,28 @@
--- The flat session: the documents, and for each of them the mirror that follows it and the events that were sent of it.
+-- The flat session: the documents, and for each of them its mirror and the events sent.
 use Rattle.std.specs.Prelude.{ℕ, List, [], Option, None, replicate, slice_get, slice_set, unwrap_or}
 use Rattle.group_rules.specs.declared.TheConstants.{DOC_COUNT}
 use Rattle.group_rules.specs.Group.{FlatGroup, new_group}
 use Rattle.mirror_rules.specs.Mirrors.{MirrorState, SentEvent}
 
--- what follows a document
+-- the follower of a document: its mirror and the events sent
 pub record FlatFollower : Type 0 where
-  -- a text that follows it, where one was begun
+  -- the mirror of the document, if one was begun
   pub mirror : Option MirrorState
   -- the events in the order in which they were sent, each with the whole text after it
   pub sent : List SentEvent
 
--- nothing was mirrored or sent
+-- the follower with no mirror and no events
 abbrev pub no_follower : FlatFollower
 no_follower = record { mirror = None; sent = [] }
 
--- what is kept from one line to the next
+-- the state that is kept from one line to the next
 pub record FlatSession : Type 0 where
   -- by their numbers
   pub documents : FlatGroup
   -- by the numbers of their documents
   pub followers : List FlatFollower
 
--- the documents before any text was opened, and nothing else
+-- the session before the first line: no text opened, no mirrors and no events
 abbrev pub new_session : FlatSession
 new_session = record { documents = new_group; followers = replicate DOC_COUNT no_follower }
 

@@ -1,4 +1,4 @@
--- One request on the flat session: its reply, and the session after it.
+-- The effect of one request on the flat session: its reply, and the session after it.
 use Rattle.std.specs.Prelude.{◌≡◌, ℕ, ◌+◌, ◌-◌, ◌^◌, ◌==◌, nat_le, if◌then◌else◌, List, [], ◌∷◌, ◌++◌, codes, unwrap_or, map, length, slice_get, Option, Some, None, option_map, option_and_then, Result, Ok, Err}
 use Rattle.text_lengths.specs.declared.Position.{Position}
 use Rattle.text_lengths.specs.declared.Span.{Span}
@@ -39,7 +39,7 @@ use Rattle.group_rules.specs.Joint.{FlatBatch, names_badly, group_joint}
 use Rattle.group_rules.specs.Going.{group_undo, group_redo}
 use Rattle.session_rules.specs.Session.{FlatSession, FlatFollower, no_follower, follower_in, with_follower}
 
--- how a reply names the refusal of a rule
+-- the refusal of a rule as named in replies
 abbrev pub reason_of : FlatRefusal → Refusal
 reason_of unknown = refusal.Unknown
 reason_of range = refusal.Range
@@ -53,37 +53,37 @@ memory_reply = refusal_reply refusal.Memory
 abbrev pub change_reply : FlatState → List ℕ
 change_reply f = ok_reply (f.version ∷ length f.units ∷ flat_line_count f ∷ [])
 
--- an answer on the documents leaves what follows them
+-- the session after an answer on the documents: their followers are unchanged
 abbrev pub within : FlatSession → List ℕ × FlatGroup → List ℕ × FlatSession
 within s answer = (answer.0, record s { documents = answer.1 })
 
--- an answer on the document of this number leaves the others
+-- the session after an answer on document n: the other documents are unchanged
 abbrev pub within_doc : FlatSession → ℕ → List ℕ × FlatState → List ℕ × FlatSession
 within_doc s n answer = within s (answer.0, with_doc s.documents n answer.1)
 
--- a change of the document of this number that the rule accepts or refuses
+-- the reply to a change of document n that the rule accepts or refuses, and the documents after it
 abbrev pub changed : FlatGroup → ℕ → Result FlatGroup FlatRefusal → List ℕ × FlatGroup
 changed old n (Ok new) = (change_reply (doc_in new n), new)
 changed old n (Err why) = (refusal_reply (reason_of why), old)
 
--- a change that the rule accepts or refuses, or finds nothing to do for: `ok none` then
+-- the same for a change for which there may be nothing to do: the reply is `ok none` then
 abbrev pub moved : FlatGroup → ℕ → Result (Option FlatGroup) FlatRefusal → List ℕ × FlatGroup
 moved old n (Ok None) = (none_reply, old)
 moved old n (Ok (Some new)) = (change_reply (doc_in new n), new)
 moved old n (Err why) = (refusal_reply (reason_of why), old)
 
--- how a reply names the refusal of a rule on several documents
+-- the refusal of a rule on several documents as named in replies
 abbrev pub group_reason_of : GroupRefusal → Refusal
 group_reason_of (plain why) = reason_of why
 group_reason_of (joint n) = refusal.Joint n
 
--- an undo or a redo
+-- the reply to an undo or a redo of document n, and the documents after it
 abbrev pub gone : FlatGroup → ℕ → Result (Option FlatGroup) GroupRefusal → List ℕ × FlatGroup
 gone old n (Ok None) = (none_reply, old)
 gone old n (Ok (Some new)) = (change_reply (doc_in new n), new)
 gone old n (Err why) = (refusal_reply (group_reason_of why), old)
 
--- `ok "TEXT"`, or why there is none
+-- `ok "TEXT"`, or the refusal
 abbrev pub text_answer : Result (List ℕ) FlatRefusal → List ℕ
 text_answer (Ok units) = text_reply units
 text_answer (Err why) = refusal_reply (reason_of why)
@@ -98,7 +98,7 @@ abbrev pub position_answer : Option Position → List ℕ
 position_answer None = refusal_reply refusal.Range
 position_answer (Some p) = ok_reply (p.line ∷ p.column ∷ [])
 
--- `ok FIRSTID COUNT`, or why nothing was changed
+-- `ok FIRSTID COUNT`, or the refusal
 abbrev pub decorated : FlatState → ℕ → Result FlatState FlatRefusal → List ℕ × FlatState
 decorated old count (Ok new) = (ok_reply (old.decorations.next_id ∷ count ∷ []), new)
 decorated old count (Err why) = (refusal_reply (reason_of why), old)
@@ -108,16 +108,16 @@ abbrev pub deco_answer : Option Deco → List ℕ
 deco_answer None = refusal_reply refusal.Unknown
 deco_answer (Some d) = ok_reply (d.span.start ∷ d.span.end ∷ d.stick ∷ d.owner ∷ [])
 
--- ID, START and END of each
+-- ID, START and END of each decoration
 abbrev pub deco_numbers : List Deco → List ℕ
 deco_numbers decos = flat_map (λ d. d.id ∷ d.span.start ∷ d.span.end ∷ []) decos
 
--- `ok` and for each decoration ` ID START END`, or why there are none
+-- `ok` and for each decoration ` ID START END`, or the refusal
 abbrev pub decos_answer : Result (List Deco) FlatRefusal → List ℕ
 decos_answer (Ok decos) = ok_reply (deco_numbers decos)
 decos_answer (Err why) = refusal_reply (reason_of why)
 
--- the letter of what a bracket is: `o` and `c` of a pair, `u` for one that none closes, `x` for one that closes none
+-- the letter of a bracket status: `o` opening and `c` closing bracket of a pair, `u` unclosed opening, `x` unexpected closing bracket
 abbrev pub status_letter : Status → ℕ
 status_letter PairedOpening = 111
 status_letter PairedClosing = 99
@@ -130,7 +130,7 @@ entry_part e =
     number_part (e.place.lines + 1) ++ number_part (e.place.columns + 1) ++ number_part e.len ++ number_part e.kind
     ++ 32 ∷ status_letter e.status ∷ number_part e.level
 
--- `ok` and each bracket
+-- `ok` and the part of each bracket
 abbrev pub entries_reply : List Entry → List ℕ
 entries_reply entries = codes "ok" ++ flat_map entry_part entries ++ codes "\n"
 
@@ -149,22 +149,22 @@ abbrev pub level_answer : Result ℕ FlatRefusal → List ℕ
 level_answer (Ok level) = ok_reply (level ∷ [])
 level_answer (Err why) = refusal_reply (reason_of why)
 
--- `ok ID`, or why no snapshot was taken
+-- `ok ID`, or the refusal
 abbrev pub snapshot_answer : FlatState → Result FlatState FlatRefusal → List ℕ × FlatState
 snapshot_answer old (Ok new) = (ok_reply (old.shelf.next_id ∷ []), new)
 snapshot_answer old (Err why) = (refusal_reply (reason_of why), old)
 
--- `ok "TEXT"`, and the units of the answer are read then; or why there are none
+-- `ok "TEXT"`, and the snapshot goes on behind the units of TEXT; or the refusal
 abbrev pub read_answer : FlatState → ℕ → Result (List ℕ) FlatRefusal → List ℕ × FlatState
 read_answer old id (Ok units) = (text_reply units, flat_skipped old id (length units))
 read_answer old id (Err why) = (refusal_reply (reason_of why), old)
 
--- `ok`, or why nothing was closed
+-- `ok`, or the refusal
 abbrev pub close_answer : FlatState → Result FlatState FlatRefusal → List ℕ × FlatState
 close_answer old (Ok new) = (ok_reply [], new)
 close_answer old (Err why) = (refusal_reply (reason_of why), old)
 
--- `ok` and for each cluster ` COL`, or why there are none
+-- `ok` and for each cluster ` COL`, or the refusal
 abbrev pub stops_answer : Result (List ℕ) FlatRefusal → List ℕ
 stops_answer (Ok columns) = ok_reply columns
 stops_answer (Err why) = refusal_reply (reason_of why)
@@ -174,7 +174,7 @@ span_between None end = None
 span_between (Some start) None = None
 span_between (Some start) (Some end) = Some (record { start = start; end = end })
 
--- the span at which an op stands; none where one of its positions is invalid
+-- the span of the place of an op; None if one of its positions is invalid
 abbrev pub span_of : FlatState → Place → Option Span
 span_of f (At span) = Some span
 span_of f (InRange start end) = span_between (flat_offset f start) (flat_offset f end)
@@ -183,7 +183,7 @@ span_of f (InRange start end) = span_between (flat_offset f start) (flat_offset 
 abbrev pub op_at : FlatState → LineOp → Option Op
 op_at f op = option_map (λ span. record { span = span; text = op.text; force = op.force }) (span_of f op.place)
 
--- the ops at their spans; none where a position of theirs is invalid
+-- the ops at their spans; None if one of their positions is invalid
 abbrev pub ops_at : FlatState → List LineOp → Option (List Op)
 ops_at f [] = Some []
 ops_at f (op ∷ ops) = option_and_then (λ first. option_map (λ rest. first ∷ rest) (ops_at f ops)) (op_at f op)
@@ -194,7 +194,7 @@ edited_at g n (Some ops) = changed g n (group_edit g n ops)
 
 -- ---- a joint edit
 
--- the batches at their spans; none where a position of theirs is invalid
+-- the batches with their ops at their spans; None if one of their positions is invalid
 abbrev pub batches_at : FlatGroup → List DocEdit → Option (List FlatBatch)
 batches_at g [] = Some []
 batches_at g (edit ∷ edits) = do
@@ -218,15 +218,15 @@ abbrev pub joined_at : FlatGroup → List ℕ → Option (List FlatBatch) → Li
 joined_at g docs None = (refusal_reply refusal.Range, g)
 joined_at g docs (Some batches) = joined_by g docs (group_joint g batches)
 
--- A document that is not there, or is named twice, is looked for before any position is.
+-- The check for documents that are out of range or named twice comes before that of the positions.
 abbrev pub joint_answer : FlatGroup → List DocEdit → List ℕ × FlatGroup
 joint_answer g edits =
     let docs = map (λ (edit : DocEdit). edit.doc) edits in
     if names_badly docs then (refusal_reply refusal.Unknown, g) else joined_at g docs (batches_at g edits)
 
--- ---- what is found
+-- ---- search results
 
--- START and END of each
+-- START and END of each span
 abbrev pub span_numbers : List Span → List ℕ
 span_numbers spans = flat_map (λ span. span.start ∷ span.end ∷ []) spans
 
@@ -234,7 +234,7 @@ span_numbers spans = flat_map (λ span. span.start ∷ span.end ∷ []) spans
 abbrev pub spans_reply : List Span → List ℕ
 spans_reply spans = ok_reply (span_numbers spans)
 
--- ---- what the last change did
+-- ---- the last change
 
 -- ` START END "TEXT"`
 abbrev pub edit_part : Op → List ℕ
@@ -246,26 +246,26 @@ changes_reply f = codes "ok" ++ (number_part f.version ++ flat_map edit_part (fl
 
 -- ---- a mirror and its events
 
--- an answer on what follows the document of this number leaves the rest
+-- the session after an answer on the follower of document n: the rest is unchanged
 abbrev pub following : FlatSession → ℕ → List ℕ × FlatFollower → List ℕ × FlatSession
 following s n answer = (answer.0, record s { followers = with_follower s.followers n answer.1 })
 
--- a new document has no mirror, and nothing was sent of it
+-- a new document has no mirror and no sent events
 abbrev pub opened : FlatSession → ℕ → Result FlatGroup FlatRefusal → List ℕ × FlatSession
 opened s n (Ok new) =
     (change_reply (doc_in new n), record { documents = new; followers = with_follower s.followers n no_follower })
 opened s n (Err why) = (refusal_reply (reason_of why), s)
 
--- `ok VERSION`: a mirror of the text of now takes the place of the old one
+-- `ok VERSION`: a mirror of the current text replaces the old mirror
 abbrev pub mirror_answer : FlatState → FlatFollower → List ℕ × FlatFollower
 mirror_answer f follower =
     (ok_reply (f.version ∷ []), record follower { mirror = Some (record { version = f.version; units = f.units }) })
 
--- so many events may be sent of one document
+-- the maximum number of sent events of one document
 abbrev pub most_sent : ℕ
 most_sent = 2 ^ 16
 
--- `ok N FROM`: the last change is sent, as event N; or `ok none` in the first version
+-- `ok N FROM`: the last change is sent as event N; `ok none` in the first version; `! limit` after `most_sent` events
 abbrev pub send_answer : FlatState → FlatFollower → List ℕ × FlatFollower
 send_answer f follower =
     if f.version == 1 then (none_reply, follower) else
@@ -274,7 +274,7 @@ send_answer f follower =
       record follower { sent = follower.sent ++ record { from = f.version - 1; after = f.units } ∷ [] },
     ))
 
--- the event of this number, from 1 on
+-- event n, counted from 1; None if it does not exist
 abbrev pub sent_at : List SentEvent → ℕ → Option SentEvent
 sent_at sent n = if n == 0 then None else slice_get sent (n - 1)
 
@@ -285,7 +285,7 @@ mirror_reply m = ok_reply (m.version ∷ length m.units ∷ length (lines_of m.u
 abbrev pub followed : FlatFollower → MirrorState → List ℕ × FlatFollower
 followed follower m = (mirror_reply m, record follower { mirror = Some m })
 
--- the mirror goes on to the text after the event, where it has the version before it
+-- the mirror takes the text after the event if it has the version before it
 abbrev pub delivered : FlatFollower → MirrorState → SentEvent → List ℕ × FlatFollower
 delivered follower m e =
     by_version e.from m.version (old_reply, follower) (refusal_reply (refusal.Gap m.version e.from), follower)
@@ -296,18 +296,18 @@ deliver_answer follower None event = (refusal_reply refusal.Unknown, follower)
 deliver_answer follower (Some m) None = (refusal_reply refusal.Unknown, follower)
 deliver_answer follower (Some m) (Some e) = delivered follower m e
 
--- `ok "TEXT"`: the content of a line of the mirror
+-- `ok "TEXT"`: the content of line n of the mirror, counted from 1; or the refusal
 abbrev pub mirrored_answer : Option MirrorState → ℕ → List ℕ
 mirrored_answer None n = refusal_reply refusal.Unknown
 mirrored_answer (Some m) n = text_answer (content_of (line_at m.units n))
 
 -- ---- each command
 
--- the table that is asked for, or the standard one, with the marks that are asked for, or none
+-- the scanner for the given table, or the standard table, and the given marks, or no marks
 abbrev pub scanner_for : Option Table → Option Marks → Scanner
 scanner_for brackets marks = scanner (unwrap_or brackets standard_table) (unwrap_or marks no_marks)
 
--- a command on the document of this number, which this is, with what follows it
+-- a command on document n, which is f, with its follower
 abbrev pub step_on : FlatSession → ℕ → FlatState → FlatFollower → Command → List ℕ × FlatSession
 step_on s n f follower (Open text brackets marks kind) = opened s n (group_open s.documents n text (scanner_for brackets marks) kind)
 step_on s n f follower (Edit ops) = within s (edited_at s.documents n (ops_at f ops))
@@ -343,12 +343,12 @@ step_on s n f follower (Mirrored line) = (mirrored_answer follower.mirror line, 
 abbrev pub step : FlatSession → ℕ → Command → List ℕ × FlatSession
 step s n command = step_on s n (doc_in s.documents n) (follower_in s.followers n) command
 
--- A request on a document that is not there is refused.
+-- A request on a document that does not exist is refused.
 abbrev pub request_answer : FlatSession → Request → List ℕ × FlatSession
 request_answer s (One n command) = if nat_le DOC_COUNT n then (refusal_reply refusal.Unknown, s) else step s n command
 request_answer s (Joint edits) = within s (joint_answer s.documents edits)
 
--- The reply is this one, and what is kept is as it says; or it is `! memory`, and all is as before.
+-- The reply and the new state are those of `flat`; or the reply is `! memory`, and the state is unchanged.
 pub data Answers {S : Type 0} (flat : List ℕ × S) (old : S) (reply : List ℕ) (new : S) : Type 0 where
   answered : reply ≡ flat.0 → new ≡ flat.1 → Answers flat old reply new
   out_of_memory : reply ≡ memory_reply → new ≡ old → Answers flat old reply new

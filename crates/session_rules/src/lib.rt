@@ -1,3 +1,3 @@
-//! What a script is answered with: the flat session and each command on it, which contracts cite. `sessions` answers
-//! lines so, and `script_runner` runs scripts.
+//! Specifies the replies to a script: the flat session and the effect of each command on it. Contracts cite these
+//! definitions; `sessions` answers lines accordingly, and `script_runner` runs scripts.
 #![tactic(auto)]

@@ -8,11 +8,11 @@ abbrev pub link_states : Link → List LineState
 link_states (Run state lines) = replicate lines state
 link_states (Shared inner) = inner.value
 
--- of two halves
+-- the states of two halves
 abbrev pub joined : Link → Link → List LineState
 joined left right = link_states left ++ link_states right
 
--- neither half is without a line; what is kept of both
+-- neither half is empty, and the stored numbers fit both
 pub record IsJoined (first second : Link) (lines height : ℕ) : Type 0 where
   pub left : 0 < length (link_states first)
   pub right : 0 < length (link_states second)

@@ -1,4 +1,4 @@
-//! Parts of a tree, and whole lists joined.
+//! Cuts parts out of a tree, and joins whole lists.
 
 ghost use Rattle.std.specs.Prelude.{◌≡◌, ◌+◌, ◌<◌, ◌≤◌, ◌^◌, ◌++◌, length, take, drop, IfOk};
 ghost use Rattle.shared_states.specs.Shapes.{link_states};
@@ -7,7 +7,7 @@ use crate::join::concat;
 use crate::node::Link;
 use std::alloc::{AllocError, Global};
 
-/// The first so many lines.
+/// Returns the first `lines` lines.
 pub(crate) fn first_lines(alloc: Global, link: &Link, lines: u64) -> Result<Link, AllocError>
     requires { lines ≤ length (link_states link.now) }
     ensures { IfOk result (λ part. link_states part ≡ take lines (link_states link.now)) }
@@ -28,7 +28,7 @@ pub(crate) fn first_lines(alloc: Global, link: &Link, lines: u64) -> Result<Link
     concat(alloc, left.share()?, rest)
 }
 
-/// The lines behind the first so many.
+/// Returns the lines after the first `lines` lines.
 pub(crate) fn lines_behind(alloc: Global, link: &Link, lines: u64) -> Result<Link, AllocError>
     requires { lines ≤ length (link_states link.now) }
     ensures { IfOk result (λ part. link_states part ≡ drop lines (link_states link.now)) }
@@ -49,7 +49,8 @@ pub(crate) fn lines_behind(alloc: Global, link: &Link, lines: u64) -> Result<Lin
     concat(alloc, rest, right.share()?)
 }
 
-/// The lines of both. Where the first ends in the state in which the second begins, the two runs become one.
+/// Returns the lines of `left` followed by those of `right`. If `left` ends in the state in which `right` begins, the
+/// two runs there become one.
 pub(crate) fn join(alloc: Global, left: Link, right: Link) -> Result<Link, AllocError>
     requires { length (link_states left) + length (link_states right) < 2 ^ 64 }
     ensures { IfOk result (λ both. link_states both ≡ link_states left ++ link_states right) }
@@ -69,7 +70,7 @@ pub(crate) fn join(alloc: Global, left: Link, right: Link) -> Result<Link, Alloc
     put_behind(alloc, put_behind(alloc, left, run)?, rest)
 }
 
-/// The lines of both, where the second may have none.
+/// Returns the lines of `left` followed by those of `right`, which may be empty.
 fn put_behind(alloc: Global, left: Link, right: Link) -> Result<Link, AllocError>
     requires some { 0 < length (link_states left) }
     requires fits { length (link_states left) + length (link_states right) < 2 ^ 64 }

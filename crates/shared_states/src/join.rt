@@ -1,4 +1,5 @@
-//! Trees joined to one, which is balanced as they are: the heights of two halves differ by 1 at most.
+//! Joins two trees. If both are balanced, so is the result: the heights of the two halves of a node differ by at most
+//! 1.
 
 ghost use Rattle.std.specs.Prelude.{◌≡◌, ◌+◌, ◌<◌, ◌^◌, ◌++◌, length, IfOk};
 ghost use Rattle.shared_states.specs.Shapes.{link_states};
@@ -6,7 +7,8 @@ ghost use Rattle.shared_states.specs.Shapes.{link_states};
 use crate::node::{Inner, Link, two};
 use std::alloc::{AllocError, Global};
 
-/// The lines of both, which have some. It costs the difference of the heights; beside a run, that of the other.
+/// Returns the lines of `left` followed by those of `right`; neither is empty. Takes time linear in the difference of
+/// their heights; if one is a run, in the height of the other.
 pub(crate) fn concat(alloc: Global, left: Link, right: Link) -> Result<Link, AllocError>
     requires left { 0 < length (link_states left) }
     requires right { 0 < length (link_states right) }
@@ -30,7 +32,7 @@ pub(crate) fn concat(alloc: Global, left: Link, right: Link) -> Result<Link, All
     side_by_side(alloc, left, right)
 }
 
-/// The two one behind the other: two runs of one state as one.
+/// Returns `left` followed by `right`. Two runs of one state become one run.
 fn side_by_side(alloc: Global, left: Link, right: Link) -> Result<Link, AllocError>
     requires left { 0 < length (link_states left) }
     requires right { 0 < length (link_states right) }
@@ -45,7 +47,7 @@ fn side_by_side(alloc: Global, left: Link, right: Link) -> Result<Link, AllocErr
     }
 }
 
-/// The two one behind the other, one of which may be higher by 2.
+/// Returns `left` followed by `right`; one of them may be higher by 2.
 fn balanced(alloc: Global, left: Link, right: Link) -> Result<Link, AllocError>
     requires left { 0 < length (link_states left) }
     requires right { 0 < length (link_states right) }
@@ -65,7 +67,7 @@ fn balanced(alloc: Global, left: Link, right: Link) -> Result<Link, AllocError>
     two(alloc, left, right)
 }
 
-/// The same, where the left one is higher by 2.
+/// Like `balanced`, with `left` higher by 2.
 fn with_high_left(alloc: Global, left: &Inner, right: Link) -> Result<Link, AllocError>
     requires right { 0 < length (link_states right) }
     requires fits { length left.now + length (link_states right) < 2 ^ 64 }
@@ -86,7 +88,7 @@ fn with_high_left(alloc: Global, left: &Inner, right: Link) -> Result<Link, Allo
     }
 }
 
-/// The same, where the right one is higher by 2.
+/// Like `balanced`, with `right` higher by 2.
 fn with_high_right(alloc: Global, left: Link, right: &Inner) -> Result<Link, AllocError>
     requires left { 0 < length (link_states left) }
     requires fits { length (link_states left) + length right.now < 2 ^ 64 }

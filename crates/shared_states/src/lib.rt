@@ -1,5 +1,5 @@
-//! The states of lines one after another, as runs in a balanced tree of which several lists share parts: a part is cut
-//! out and joined to others without a copy of what stays as it was.
+//! Lists of line states, stored as runs in a balanced tree of which several lists share parts. A part is cut out and
+//! joined to others without a copy of its unchanged nodes.
 #![tactic(auto)]
 
 mod cut;

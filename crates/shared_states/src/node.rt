@@ -9,7 +9,7 @@ use std::alloc::{AllocError, Global};
 use std::marker::Model;
 use std::rc::Rc;
 
-/// What leads to lines: a run of lines in one state, or two halves.
+/// A subtree: a run of lines in one state, or a node with two halves.
 #[cycle(inner)]
 #[derive(Drop)]
 pub(crate) enum Link {
@@ -17,14 +17,14 @@ pub(crate) enum Link {
     Shared(Rc<Inner>),
 }
 
-/// Two halves, neither without a line.
+/// A node with two halves, neither of which is empty.
 #[cycle(inner)]
 #[derive(Drop)]
 pub(crate) struct Inner {
     left: Link,
     right: Link,
     lines: u64,
-    /// One more than that of the higher half; a run's is 0.
+    /// One more than the height of the higher half; the height of a run is 0.
     height: u64,
 }
 
@@ -48,7 +48,7 @@ impl Model for Inner {
 }
 
 impl Inner {
-    /// The two halves.
+    /// Returns the two halves.
     pub fn halves(&self) -> (&Link, &Link)
         ensures whole { self.now ≡ link_states result.0.now ++ link_states result.1.now }
         ensures left { 0 < length (link_states result.0.now) }
@@ -72,7 +72,7 @@ impl Inner {
 }
 
 impl Link {
-    /// How many lines there are.
+    /// Returns the number of lines.
     pub fn len(&self) -> u64
         ensures { result ≡ length (link_states self.now) }
     {
@@ -82,7 +82,7 @@ impl Link {
         }
     }
 
-    /// How many halves lie in one another.
+    /// Returns the height of the subtree; 0 for a run.
     pub fn height(&self) -> u64
         ensures { result ≤ length (link_states self.now) }
     {
@@ -96,7 +96,7 @@ impl Link {
         matches!(self, Link::Run(..))
     }
 
-    /// The same lines, shared.
+    /// Returns the same lines; a node is shared, not copied.
     pub fn share(&self) -> Result<Link, AllocError>
         ensures { IfOk result (λ link. link_states link ≡ link_states self.now) }
     {
@@ -106,7 +106,7 @@ impl Link {
         }
     }
 
-    /// The state of the line behind so many.
+    /// Returns the state of the line with index `line`, counted from 0.
     pub fn at(&self, line: u64) -> LineState
         requires { line < length (link_states self.now) }
         ensures { result ≡ slice_index_or (link_states self.now) line Code }
@@ -125,7 +125,7 @@ impl Link {
         }
     }
 
-    /// How many lines the first run has.
+    /// Returns the number of lines of the first run.
     pub fn first_run(&self) -> u64
         ensures { result ≤ length (link_states self.now) }
     {
@@ -136,7 +136,7 @@ impl Link {
     }
 }
 
-/// The two one behind the other, neither of which is without a line.
+/// Returns a node with the halves `left` and `right`, neither of which is empty.
 pub(crate) fn two(alloc: Global, left: Link, right: Link) -> Result<Link, AllocError>
     requires left { 0 < length (link_states left) }
     requires right { 0 < length (link_states right) }

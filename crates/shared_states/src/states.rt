@@ -9,8 +9,8 @@ use hiding_rules::LineState;
 use std::alloc::{AllocError, Global};
 use std::marker::Model;
 
-/// States of lines one after another. They are kept as runs of lines in one state, in a balanced tree of which several
-/// lists share parts: a look-up, a part and an append cost the logarithm of the number of runs.
+/// The states of consecutive lines, stored as runs of lines in one state, in a balanced tree of which several lists
+/// share parts. A look-up, a part and an append take time logarithmic in the number of runs.
 #[derive(Drop)]
 pub struct StateList {
     link: Link,
@@ -28,7 +28,7 @@ impl Model for StateList {
 }
 
 impl StateList {
-    /// So many lines in one state. Takes no memory.
+    /// Creates a list of `lines` lines in one state. Allocates no memory.
     pub fn run(state: LineState, lines: u64) -> StateList
         ensures { result ≡ replicate lines state }
     {
@@ -37,14 +37,14 @@ impl StateList {
         }
     }
 
-    /// How many lines there are.
+    /// Returns the number of lines.
     pub fn len(&self) -> u64
         ensures { result ≡ length self.now }
     {
         self.link.len()
     }
 
-    /// The state of the line behind so many.
+    /// Returns the state of the line with index `line`, counted from 0.
     pub fn at(&self, line: u64) -> LineState
         requires { line < length self.now }
         ensures { result ≡ slice_index_or self.now line Code }
@@ -52,7 +52,7 @@ impl StateList {
         self.link.at(line)
     }
 
-    /// The lines from the one to the other, this one not included, in a list of their own. It shares what it can.
+    /// Returns the lines with indices `from..to` as a list of its own, which shares nodes with this list where it can.
     pub fn part(&self, alloc: Global, from: u64, to: u64) -> Result<StateList, AllocError>
         requires ordered { from ≤ to }
         requires within { to ≤ length self.now }
@@ -63,7 +63,7 @@ impl StateList {
         Ok(StateList { link })
     }
 
-    /// Puts others behind them. An error leaves them as they were.
+    /// Appends the lines of `other`. After an error the list is unchanged.
     pub fn append(&mut self, alloc: Global, other: StateList) -> Result<(), AllocError>
         requires fits { length self.old + length other < 2 ^ 64 }
         ensures ok { OnOk result (self.new ≡ self.old ++ other) }

@@ -1,4 +1,4 @@
--- What a read takes of a text: it stands at its front, cuts no pair, and is not empty where anything is left.
+-- The units that a read returns: they are a prefix of the text, cut no pair, and are not empty if any units are left.
 use Rattle.std.proofs.Common.{true≢false, ◌≡◌, ℕ, ◌-◌, ◌<◌, ◌≤◌, Bool, true, false, ◌&&◌, not, nat_lt, cond, List, ◌++◌, length, take, drop, get_or, refl, ap, ap₂, sym, subst, ◌∙◌, inl, inr, length-take, take-append-drop, le-leb, arith}
 use Rattle.std.specs.Char.Utf16.{is_high_surrogate, is_low_surrogate}
 use Rattle.std.proofs.lemmas.Bool.{cases_lt}
@@ -51,7 +51,7 @@ module _ (x : List ℕ) where
     | inr past ↦ ap (λ y. is_place x (length y)) (take_all count x past) ∙ whole_is_place
   ]
 
-  -- what was read ends at a place of the text, so that no pair is cut
+  -- a read ends at a valid offset, so no pair is cut
   pub front_place : (count : ℕ) → is_place x (length (front count x)) ≡ true
   front_place count = front_place-by (cuts_pair x count) count refl
 
@@ -68,7 +68,7 @@ module _ (x : List ℕ) where
   pub take_front : (count : ℕ) → take (length (front count x)) x ≡ front count x
   take_front count = take_front-by (cuts_pair x count) count
 
-  -- reads one after another give the whole text
+  -- the units of a read and the unread rest together are the text
   pub front_rest : (count : ℕ) → front count x ++ drop (length (front count x)) x ≡ x
   front_rest count = ap (λ y. y ++ drop (length (front count x)) x) (sym (take_front count)) ∙ take-append-drop (length (front count x)) x
 
@@ -76,7 +76,7 @@ module _ (x : List ℕ) where
   front_some-by true count enough some = omega (arith, length-take (count - 1) x)
   front_some-by false count enough some = omega (arith, length-take count x)
 
-  -- so they come to its end
+  -- a read of a non-empty rest is not empty, so repeated reads reach the end
   pub front_some : (count : ℕ) → least_read ≤ count → 0 < length x → 0 < length (front count x)
   front_some count enough some = front_some-by (cuts_pair x count) count enough some
 

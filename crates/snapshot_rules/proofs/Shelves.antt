@@ -1,4 +1,4 @@
--- What the rules keep: ids rise, and none comes again.
+-- Invariants of the rules: ids ascend, and no id is used twice.
 use Rattle.std.proofs.Common.{drop, ◌≡◌, ℕ, ◌+◌, ◌<◌, ◌≤◌, Bool, true, false, not, cond, Ok, Err, List, [], ◌∷◌, ◌++◌, length, map, filter, refl, ap, sym, subst, ◌∙◌, leb-false, ltb-false, arith, Result}
 use Rattle.std.specs.List.{All}
 use Rattle.std.proofs.lemmas.Bool.{or_parts, not-true}
@@ -91,7 +91,7 @@ module _ (f new : FlatShelf) (id : ℕ) where
         last = sound.last;
       })
 
-  -- what was closed is not open, nor does its id come again
+  -- a closed snapshot is not open, and its id is not used again
   pub not_open-closed : flat_close f id ≡ Ok new → (is_open new id ≡ false) × (new.next_id ≡ f.next_id)
   not_open-closed accepted =
       let same = closed-by (is_open f id) accepted in (

@@ -7,7 +7,7 @@ use Rattle.snapshot_rules.specs.Snapshots.{FlatShelf, empty_shelf, is_full, flat
 abbrev hi : List ℕ
 hi = 0x68 ∷ 0x69 ∷ []
 
--- one snapshot under this id, and the next one's id
+-- a shelf with one snapshot that has this id; the next id is one larger
 abbrev one : ℕ → List ℕ → FlatShelf
 one id rest = record { snapshots = record { id = id; rest = rest } ∷ []; next_id = id + 1 }
 
@@ -30,7 +30,7 @@ a_pair_is_not_cut = refl
 a_pair_is_read_whole : flat_peek (one 1 (0xD83D ∷ 0xDE00 ∷ 0x61 ∷ [])) 1 2 ≡ Ok (0xD83D ∷ 0xDE00 ∷ [])
 a_pair_is_read_whole = refl
 
--- a high surrogate at the end is no part of a pair
+-- a high surrogate at the end of the text is unpaired
 a_lone_surrogate_is_read : flat_peek (one 1 (0x61 ∷ 0xD83D ∷ [])) 1 2 ≡ Ok (0x61 ∷ 0xD83D ∷ [])
 a_lone_surrogate_is_read = refl
 
@@ -49,7 +49,7 @@ closed_twice = refl
 an_id_is_not_used_again : flat_take (record { snapshots = []; next_id = 2 }) hi ≡ Ok (one 2 hi)
 an_id_is_not_used_again = refl
 
--- so many are open
+-- a shelf with `count` open snapshots
 abbrev many : ℕ → FlatShelf
 many count = record { snapshots = replicate count (record { id = 1; rest = hi }); next_id = 2000 }
 

@@ -1,8 +1,8 @@
--- Why the rules of snapshots refuse a call. Want of memory is no such reason: the rules take none.
+-- The reasons why the rules of snapshots refuse a call. Lack of memory is not among them: the rules need none.
 pub data ShelfRefusal : Type 0 where
-  -- no snapshot of this id is open
+  -- no open snapshot has this id
   unknown : ShelfRefusal
-  -- fewer units were asked for than a pair of surrogates has
+  -- the requested number of units is below the length of a pair of surrogates
   range : ShelfRefusal
-  -- there would be too many snapshots, or no id for a new one
+  -- there would be too many snapshots, or no id is left for a new one
   limit : ShelfRefusal

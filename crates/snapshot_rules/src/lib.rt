@@ -1,28 +1,28 @@
-//! What snapshots of a text are: definitions and their laws, which contracts cite, and why a call on them is refused.
-//! `snapshots` has the shelf that keeps them.
+//! Definitions of snapshots of a text with their laws, which contracts cite, and the reasons why a call on snapshots
+//! fails. The crate `snapshots` implements the shelf that holds them.
 #![tactic(auto)]
 
 use thiserror::Error;
 
-/// The most snapshots that are open at once.
+/// The maximum number of open snapshots.
 pub const MOST_SNAPSHOTS: u64 = 1_000;
 
-/// The least number of units that may be read at once: a pair of surrogates has so many.
+/// The minimum number of units per read: the length of a pair of surrogates.
 pub const LEAST_READ: u64 = 2;
 
-/// Why a call on snapshots was refused.
+/// The reason why a call on snapshots failed.
 #[derive(Clone, Copy, PartialEq, Eq, Debug, Error)]
 pub enum ShelfError {
-    /// No snapshot of this id is open.
+    /// No open snapshot has this id.
     #[error("no such snapshot is open")]
     Unknown,
-    /// Fewer units were asked for than a pair of surrogates has.
+    /// The requested number of units is below [`LEAST_READ`].
     #[error("fewer units were asked for than a pair of surrogates has")]
     Range,
-    /// There would be too many snapshots, or no id for a new one.
+    /// There would be more than [`MOST_SNAPSHOTS`] open snapshots, or no id is left for a new one.
     #[error("a limit would be passed")]
     Limit,
-    /// There was no memory for the call.
+    /// Out of memory.
     #[error("out of memory")]
     Memory,
 }

@@ -1,4 +1,4 @@
--- What a shelf with spans shows is a flat shelf.
+-- A shelf with spans behaves as its flat shelf.
 use Rattle.std.proofs.Common.{◌≡◌, ℕ, ◌<◌, ◌≤◌, Bool, true, false, not, Option, Some, None, Ok, Err, lt-ltb, le-ltb, List, [], ◌∷◌, map, filter, find, option_map, if◌then◌else◌, refl, ap, ap₂, sym, subst, unwrap_or}
 use Rattle.std.specs.List.{All, list_any}
 use Rattle.std.proofs.lemmas.List.Elements.{All-head, All-tail, All-same, All-map, All-weaker}
@@ -89,7 +89,7 @@ module _ (b : List (List ℕ)) where
 some-same : {X : Type 0} {x y : X} → Some x ≡ Some y → x ≡ y
 some-same {X} {x} {y} e = ap (λ (o : Option X). unwrap_or o x) e
 
--- what holds of each holds of the one that is found
+-- a property of all items holds for the found one
 found-by : {X : Type 0} (P : X → Type 0) (test : X → Bool) (t : Bool) (x y : X) (xs : List X) → test x ≡ t → P x
     → (Some y ≡ find test xs → P y) → Some y ≡ find test (x ∷ xs) → P y
 found-by P test true x y xs e here later found = subst P (some-same (sym (rw e at found))) here

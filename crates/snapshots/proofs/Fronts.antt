@@ -1,4 +1,4 @@
--- The front of a text that was read a unit further.
+-- A prefix of a text, from a read of one more unit.
 use Rattle.std.proofs.Common.{◌≡◌, ℕ, ◌+◌, ◌-◌, ◌<◌, ◌^◌, ◌&&◌, min, Bool, true, false, cond, nat_lt, List, ◌++◌, length, take, drop, refl, ap, ap₂, sym, ◌∙◌, inl, inr, take-take, take-add, length-take, arith, if◌then◌else◌}
 use Rattle.std.specs.Char.Utf16.{is_high_surrogate, is_low_surrogate}
 use Rattle.std.proofs.lemmas.Bool.{cases_lt}
@@ -16,7 +16,7 @@ front-take count most x more =
     ap (λ b. cond b (take (count - 1) (take most x)) (take count (take most x))) (cuts_pair-take count most x more)
     ∙ ap₂ (cond (cuts_pair x count)) (take-take (count - 1) most x (omega arith)) (take-take count most x (omega arith))
 
--- one unit more, as far as a number of 64 bits goes
+-- a read of one more unit, or of at most 2 ^ 64 - 1, gives the same prefix
 pub front-read : (count most : ℕ) (x : List ℕ) → most ≡ min (count + 1) (2 ^ 64 - 1) → length (take most x) < 2 ^ 63 → front count (take most x) ≡ front count x
 front-read count most x is few =
     elim (cases_lt count most) [
@@ -35,7 +35,7 @@ front-kept before kept count out is =
     ∙ ap (λ n. take before out ++ take n (drop before out)) is
     ∙ ap (λ u. take before out ++ u) (front-by (cuts_pair (drop before out) count) count (drop before out))
 
--- the front of what was read behind what was there
+-- the prefix of the units that were read, appended to the old ones
 pub front-behind : (count most before : ℕ) (old x out : List ℕ) → before ≡ length old → most ≡ min (count + 1) (2 ^ 64 - 1) → length (take most x) < 2 ^ 63
     → out ≡ old ++ take most x → take before out ++ front count (drop before out) ≡ old ++ front count x
 front-behind count most before old x out place is few out_is =

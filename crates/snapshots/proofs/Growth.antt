@@ -1,4 +1,4 @@
--- A shelf shows the same when its buffers have grown.
+-- The flat shelf of a shelf is unchanged when its buffers grow.
 use Rattle.std.proofs.Common.{◌≡◌, ℕ, List, [], ◌∷◌, ◌++◌, map, refl, ap, ap₂, arith}
 use Rattle.std.specs.List.{All}
 use Rattle.std.proofs.lemmas.List.Elements.{All-head, All-tail, All-weaker}

@@ -1,4 +1,4 @@
--- The snapshot of an id stands where a search by halving finds it, and no other has its id.
+-- A binary search finds the snapshot of an id, and no other snapshot has this id.
 use Rattle.std.proofs.Common.{◌≡◌, ◌≢◌, ℕ, zero, suc, ◌+◌, ◌<◌, ◌≤◌, true, false, not, ◌||◌, nat_le, nat_lt, Option, Some, None, List, [], ◌∷◌, length, get_or, set, take, ◌++◌, map, filter, find, Result, Ok, Err, refl, ap, ap₂, sym, inl, inr, subst, ◌∙◌, arith}
 use Rattle.std.specs.List.{All, list_any, remove}
 use Rattle.std.specs.List.Sorted.{IsSearchInRange, IsBinarySearchResult, IsNonDecreasingBy}
@@ -24,7 +24,7 @@ abbrev pub Rises : List Spelled → Type 0
 Rises [] = Unit {0}
 Rises (x ∷ xs) = All (λ (later : Spelled). x.id < later.id) xs × Rises xs
 
--- as of the snapshots that they show
+-- the ids rise if those of the flat snapshots do
 pub rises : (b : List (List ℕ)) (xs : List Spelled) → IsRising (map (snapshot_of b) xs) → Rises xs
 rises b [] rising = tt
 rises b (x ∷ xs) rising = (
@@ -79,7 +79,7 @@ module _ (id : ℕ) where
   kept-all (x ∷ xs) none =
       kept-by x xs xs (All-head (λ s. spells id s ≡ false) x xs none) (kept-all xs (All-tail (λ s. spells id s ≡ false) x xs none))
 
-  -- those behind the one of this id have greater ids, and those before it smaller ones
+  -- the snapshots behind the one of this id have greater ids, and those before it smaller ones
   behind : (x : Spelled) (xs : List Spelled) → All (λ (later : Spelled). x.id < later.id) xs → x.id ≡ id → All (λ s. spells id s ≡ false) xs
   behind x xs above here k d inside = other id (get_or xs k d) (omega (arith, above k d inside))
 
@@ -127,7 +127,7 @@ module _ (id : ℕ) where
   find-none (x ∷ xs) none =
       rw (other id x (All-head (λ (s : Spelled). s.id ≢ id) x xs none)) (find-none xs (All-tail (λ (s : Spelled). s.id ≢ id) x xs none))
 
--- where there are no buffers, all that is shown is ids
+-- without buffers, only the ids are shown
 spelled-none : (spans : List ChunkSpan) → spelled [] spans ≡ []
 spelled-none [] = refl
 spelled-none (span ∷ spans) = rw (spelled-none spans) (ap (λ (u : List ℕ). take span.units u ++ []) (drop_all span.start [] (omega arith)) ∙ ap (λ (u : List ℕ). u ++ []) (take_all span.units [] (omega arith)))

@@ -1,4 +1,4 @@
--- What is left of a text in spans when its first units were read.
+-- The rest of a text in spans after its first units were read.
 use Rattle.std.proofs.Common.{◌≡◌, ℕ, suc, ◌+◌, ◌-◌, ◌<◌, ◌≤◌, min, List, [], ◌∷◌, ◌++◌, length, take, drop, ap, sym, ◌∙◌, inl, inr, append-nil, append_assoc, get_or, drop-cons, arith, lt-ltb, le-ltb}
 use Rattle.std.specs.List.{All}
 use Rattle.std.proofs.Math.Seq.{drop-append-add, take-append-add}
@@ -55,7 +55,7 @@ module _ (b : List (List ℕ)) where
         | inr past ↦ rw (le-ltb n span.units past) (LiesIn-without (n - span.units) spans rest)
       ]
 
-  -- the front of a text whose first span gives what it has
+  -- a prefix of a text, taken from its first span and from the rest
   pub take-span : (left : ℕ) (span : ChunkSpan) (rest : List ℕ) → LiesIn b span
       → take left (units_at b span ++ rest) ≡ take (min left span.units) (units_at b span) ++ take (left - min left span.units) rest
   take-span left span rest lies =

@@ -1,4 +1,4 @@
--- Worked examples of the definitions: spans that spell `hi` and an emoji, in two buffers.
+-- Worked examples of the definitions: spans of `hi` and an emoji, in two buffers.
 use Rattle.std.specs.Prelude.{◌≡◌, ℕ, List, [], ◌∷◌, Ok, refl}
 use Rattle.chunk_buffers.specs.declared.span.ChunkSpan.{ChunkSpan}
 use Rattle.snapshot_rules.specs.Snapshots.{flat_take, flat_peek}

@@ -1,4 +1,4 @@
--- A snapshot as the spans of buffers that spell what was not read yet.
+-- A snapshot as the spans of the units that were not read yet.
 use Rattle.std.specs.Prelude.{ℕ, ◌≡◌, ◌≢◌, ◌+◌, ◌-◌, ◌<◌, ◌^◌, ◌==◌, Bool, nat_lt, if◌then◌else◌, List, [], ◌∷◌, length, Option, Some, None}
 use Rattle.std.specs.List.{flat_map, All, HoldsAt}
 use Rattle.chunk_buffers.specs.declared.span.ChunkSpan.{ChunkSpan}
@@ -10,14 +10,14 @@ pub record Spelled : Type 0 where
   pub id : ℕ
   pub spans : List ChunkSpan
 
--- the units that the spans show, one after another
+-- the units of the spans, one after another
 abbrev pub spelled : List (List ℕ) → List ChunkSpan → List ℕ
 spelled buffers spans = flat_map (units_at buffers) spans
 
 abbrev pub snapshot_of : List (List ℕ) → Spelled → Snapshot
 snapshot_of buffers s = record { id = s.id; rest = spelled buffers s.spans }
 
--- the place where it ends is a number of 32 bits, as of each span that lies in buffers
+-- the end of the span fits in 32 bits, as for each span that lies in buffers
 pub record IsSmall (span : ChunkSpan) : Type 0 where
   pub end : span.start + span.units < 2 ^ 32
 
@@ -31,7 +31,7 @@ without n (span ∷ spans) =
 abbrev pub spells : ℕ → Spelled → Bool
 spells id s = s.id == id
 
--- where the snapshot of this id stands, if one has it
+-- the index of the snapshot of this id, if there is one
 abbrev pub IsPlaceOf : ℕ → List Spelled → Option ℕ → Type 0
 IsPlaceOf id xs None = All (λ s. s.id ≢ id) xs
 IsPlaceOf id xs (Some i) = (i < length xs) × HoldsAt (λ s. s.id ≡ id) xs i

@@ -7,12 +7,12 @@ ghost use Rattle.snapshots.specs.Spans.{IsSmall, without};
 use chunk_buffers::ChunkSpan;
 use std::marker::Model;
 
-/// A snapshot that is open. Contracts see its id, and the spans of what was not read yet.
+/// An open snapshot. Contracts see its id, and the spans of the units that were not read yet.
 #[derive(Drop)]
 pub(crate) struct Kept {
     id: u64,
     spans: Vec<ChunkSpan>,
-    /// How many of the spans were read whole; of the next one only the rest is kept.
+    /// The number of spans that were read whole; the next one is cut to its unread rest.
     read: usize,
 }
 
@@ -29,7 +29,7 @@ impl Model for Kept {
 }
 
 impl Kept {
-    /// The text that the spans spell, of which nothing was read.
+    /// Returns a snapshot of the text of these spans, of which nothing was read yet.
     pub(crate) fn of_spans(id: u64, spans: Vec<ChunkSpan>) -> Kept
         requires { All IsSmall spans.items }
         ensures { result ≡ record { id = id; spans = spans.items } }
@@ -43,7 +43,7 @@ impl Kept {
         self.id
     }
 
-    /// The spans of what was not read yet.
+    /// Returns the spans of the units that were not read yet.
     pub(crate) fn rest(&self) -> &[ChunkSpan]
         ensures { result.now ≡ self.now.spans }
     {
@@ -51,7 +51,7 @@ impl Kept {
         rest
     }
 
-    /// The first `n` units were read. Spans that were read whole are passed in one step.
+    /// Skips the first `n` unread units, or all if there are fewer. Each span that is skipped whole takes one step.
     pub(crate) fn skip(&mut self, n: u64)
         ensures { self.new ≡ record self.old { spans = without n self.old.spans } }
     {
@@ -68,7 +68,7 @@ impl Kept {
     }
 }
 
-// The span without its first units.
+// Returns the span without its first `from` units.
 fn rest_of(span: ChunkSpan, from: u64) -> ChunkSpan
     requires within { from ≤ span.units }
     requires small { IsSmall span }

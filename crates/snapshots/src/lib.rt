@@ -1,4 +1,4 @@
-//! Texts of earlier moments, which are read from their fronts. No text is copied.
+//! Snapshots of texts, which are read from the front. No text is copied.
 #![tactic(auto)]
 
 mod kept;

@@ -1,4 +1,4 @@
-//! Reading the front of a text in spans.
+//! Reads a prefix of a text in spans.
 
 ghost use Rattle.std.specs.Prelude.{◌≡◌, ◌-◌, ◌≤◌, ◌++◌, if◌then◌else◌, take, drop, OnOk, OnErr, vec_len};
 ghost use Rattle.std.specs.List.{All};
@@ -11,8 +11,7 @@ use chunk_buffers::{ChunkSpan, Chunks};
 use std::alloc::AllocError;
 use unit_text::cuts_pair;
 
-/// Appends the first `count` units that the spans spell, or one fewer where a pair of surrogates would be cut. After
-/// an error `out` is as it was.
+/// Appends the first `count` units of the spans, or one fewer if a surrogate pair would be cut. On an error `out` is unchanged.
 pub(crate) fn push_front(
     spans: &[ChunkSpan],
     count: u64,
@@ -25,7 +24,7 @@ pub(crate) fn push_front(
     ensures err { OnErr result (out.new.items ≡ out.old.items) }
 {
     let before = out.len();
-    // One unit more, to see whether it belongs to the last one.
+    // One more unit shows whether a pair would be cut.
     let pushed = push_units(spans, count.saturating_add(1), chunks, out);
     if pushed.is_err() {
         out.truncate(before);
@@ -35,8 +34,7 @@ pub(crate) fn push_front(
     Ok(())
 }
 
-// Appends the first units that the spans spell, `most` at most. After an error some of them stand behind what was
-// there.
+// Appends the first units of the spans, at most `most`. On an error `out` may keep some of them.
 fn push_units(
     spans: &[ChunkSpan],
     most: u64,
@@ -61,7 +59,7 @@ fn push_units(
     Ok(())
 }
 
-// Of the units behind the first `before` ones, leaves the first `count`, or one fewer where a pair would be cut.
+// Truncates `out` to its first `before` units and the next `count`, or one fewer if a pair would be cut.
 fn keep_front(before: usize, count: u64, out: &mut Vec<u16>)
     requires { before ≤ vec_len out.old }
     ensures { out.new.items ≡ take before out.old.items ++ front count (drop before out.old.items) }
@@ -74,7 +72,7 @@ fn keep_front(before: usize, count: u64, out: &mut Vec<u16>)
     out.truncate(before + kept as usize);
 }
 
-// How many units the front of so many units has, where there are as many.
+// Returns `count`, or one less if a prefix of `count` units would cut a pair.
 fn front_len(units: &[u16], count: u64) -> u64
     ensures length { result ≡ (if cuts_pair units.now count then count - 1 else count) }
     ensures within { result ≤ count }

@@ -1,4 +1,4 @@
-//! The shelf.
+//! The shelf of open snapshots.
 
 ghost use Rattle.std.specs.Prelude.{◌≡◌, Err, ℕ, List, [], find, ◌++◌, OnErr, ◌||◌, ◌==◌, nat_le, nat_lt, length};
 ghost use Rattle.std.specs.List.{All};
@@ -16,8 +16,8 @@ use std::alloc::Global;
 use std::marker::Model;
 use text_lengths::GREATEST_NUMBER;
 
-/// The snapshots that are open, under ids that rise from 1. Contracts see the spans of what was not read yet; a text in
-/// buffers that only grow shows the same units for good.
+/// The open snapshots, under ids that rise from 1. Contracts see the spans of the units that were not read yet. These units never change,
+/// because the buffers are only appended to.
 #[derive(Drop)]
 pub struct Shelf {
     snapshots: Vec<Kept>,
@@ -35,7 +35,7 @@ impl Model for Shelf {
 }
 
 impl Shelf {
-    /// A shelf with no snapshot. It takes no memory.
+    /// Returns an empty shelf. Allocates nothing.
     pub fn new(alloc: Global) -> Shelf
         ensures { result ≡ record { snapshots = []; next_id = 1 } }
     {
@@ -45,8 +45,8 @@ impl Shelf {
         }
     }
 
-    /// Keeps the text that the spans spell, and answers its id. It refuses with Limit where 1,000 are open, or where the
-    /// id would pass 2^63 - 1. An error leaves the shelf as it was.
+    /// Opens a snapshot of the text of these spans, and returns its id. Fails with `Limit` if 1,000 snapshots are open or the id would
+    /// exceed 2^63 - 1, and with `Memory` if memory is short. On an error the shelf is unchanged.
     pub fn take(&mut self, spans: Vec<ChunkSpan>) -> Result<u64, ShelfError>
         requires { All IsSmall spans.items }
         ensures change { TakesText result self.old self.new spans.items }
@@ -64,7 +64,7 @@ impl Shelf {
         Ok(id)
     }
 
-    /// Whether no snapshot is open.
+    /// Returns whether no snapshot is open.
     pub fn is_empty(&self) -> bool
         ensures { result ≡ (length self.now.snapshots == 0) }
     {
@@ -78,9 +78,9 @@ impl Shelf {
         self.snapshots.len() as u64 >= MOST_SNAPSHOTS || self.next_id > GREATEST_NUMBER
     }
 
-    /// Appends the first `count` units of what is left, or all where fewer are left; one fewer where the last one
-    /// would be a high surrogate with its low one behind it. The shelf stays. It refuses with Unknown where no
-    /// snapshot of this id is open, then with Range where the count is below 2. After an error `out` is as it was.
+    /// Appends the next `count` unread units, or all if fewer are left; one fewer if the last one would be a high surrogate that is
+    /// followed by its low one. The shelf is unchanged. Fails with `Unknown` if no snapshot of this id is open, then with `Range` if
+    /// `count` is below 2, then with `Memory` if memory is short. On an error `out` is unchanged.
     pub fn peek(
         &self,
         id: u64,
@@ -109,7 +109,7 @@ impl Shelf {
         Some(&self.snapshots[place])
     }
 
-    // Where the snapshot of this id stands. It is found by halving, since ids rise.
+    // Finds the index of the snapshot of this id by binary search, since ids rise.
     fn place(&self, id: u64) -> Option<usize>
         ensures { IsPlaceOf id self.now.snapshots result }
     {
@@ -118,8 +118,7 @@ impl Shelf {
             .ok()
     }
 
-    /// The first `n` units of what is left of the snapshot were read; all of it where fewer are left. Nothing changes
-    /// where no snapshot of this id is open.
+    /// Skips the next `n` unread units of the snapshot, or all if fewer are left. Does nothing if no snapshot of this id is open.
     pub fn skip(&mut self, id: u64, n: u64)
         ensures change { (buffers : List (List ℕ)) → LieIn buffers self.old
             → shown buffers self.new ≡ flat_skip (shown buffers self.old) id n }
@@ -132,8 +131,7 @@ impl Shelf {
         self.snapshots[place].skip(n);
     }
 
-    /// The snapshot is no longer open, and its id is not used again. It refuses with Unknown where no snapshot of this
-    /// id is open. It takes no memory.
+    /// Closes the snapshot. Its id is not used again. Fails with `Unknown` if no snapshot of this id is open. Allocates nothing.
     pub fn close(&mut self, id: u64) -> Result<(), ShelfError>
         ensures change { (buffers : List (List ℕ))
             → Closes result (shown buffers self.old) (shown buffers self.new)

@@ -1,4 +1,4 @@
-//! A counter of steps, and a list of numbers, which only proofs read and which cost nothing at run time.
+//! A counter of steps and a list of numbers. Only proofs read them, and they cost nothing at run time.
 #![tactic(auto)]
 
 mod trail;
@@ -8,16 +8,16 @@ ghost use Rattle.std.specs.Prelude.{◌≡◌, ◌+◌};
 use std::marker::{Model, PhantomData};
 pub use trail::Trail;
 
-/// How many steps were taken. It takes no bytes, and only `tick` and `add` change it.
+/// A counter of steps. It takes no bytes, and only `tick` and `add` change it.
 ///
-/// A function that is given one for any `L` can't make another of them, so it can't start the count again.
+/// A function that is generic in `L` cannot make another counter of that type, so it cannot restart the count.
 #[derive(Drop)]
 pub struct Steps<L> {
     taken: Trail,
     of: PhantomData<L>,
 }
 
-/// What a counter counts for that nobody reads.
+/// The type parameter of counters that nobody reads.
 #[derive(Drop)]
 pub struct Uncounted;
 
@@ -31,7 +31,7 @@ impl<L> Model for Steps<L> {
 }
 
 impl Steps<Uncounted> {
-    /// No step yet.
+    /// Makes a counter at 0.
     pub fn new() -> Steps<Uncounted>
         ensures { result ≡ 0 }
     {
@@ -43,14 +43,14 @@ impl Steps<Uncounted> {
 }
 
 impl<L> Steps<L> {
-    /// One step more.
+    /// Counts one step.
     pub fn tick(&mut self)
         ensures { self.new ≡ self.old + 1 }
     {
         self.add(1);
     }
 
-    /// So many steps more.
+    /// Counts `steps` steps.
     pub fn add(&mut self, steps: u64)
         ensures { self.new ≡ self.old + steps }
     {

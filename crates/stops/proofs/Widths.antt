@@ -6,7 +6,7 @@ use Rattle.std.proofs.lemmas.Bool.{cases_lt}
 use Rattle.std.proofs.lemmas.List.Concat.{flat_map-append}
 use Rattle.std.proofs.lemmas.Str.{length-encode, len_utf8_bounds}
 
--- what `len_utf16` answers
+-- the result of `len_utf16`
 module _ (c n : ℕ) (one : c < 0x1_0000 → n ≡ 1) (two : 0x1_0000 ≤ c → n ≡ 2) where
   units_of_char : n ≡ length (encode_utf16 c)
   units_of_char = elim (cases_lt c 0x1_0000) [

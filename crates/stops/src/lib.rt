@@ -8,8 +8,8 @@ ghost use Rattle.document_rules.specs.Stops.{stops_of, starts_from, width};
 use std::alloc::{AllocError, Global};
 use unicode_segmentation::UnicodeSegmentation;
 
-/// Appends the columns, counted from 1, at which the extended grapheme clusters of a line's content start; a surrogate
-/// that stands in no pair counts as U+FFFD. After an error `out` is as it was.
+/// Appends the columns, counted from 1, at which the extended grapheme clusters of a line's content start; an unpaired surrogate counts as
+/// U+FFFD. On an error `out` is unchanged.
 pub fn stops(alloc: Global, content: &[u16], out: &mut Vec<u64>) -> Result<(), AllocError>
     ensures ok { OnOk result (out.new.items ≡ out.old.items ++ stops_of content.now) }
     ensures err { OnErr result (out.new.items ≡ out.old.items) }
@@ -23,7 +23,7 @@ pub fn stops(alloc: Global, content: &[u16], out: &mut Vec<u64>) -> Result<(), A
     pushed
 }
 
-// After an error some of the columns stand behind what was there.
+// On an error `out` may keep some of the appended columns.
 fn push_stops(text: &str, out: &mut Vec<u64>) -> Result<(), AllocError>
     ensures ok { OnOk result (out.new.items
         ≡ out.old.items ++ starts_from 1 (graphemes true text.now)) }
@@ -37,7 +37,7 @@ fn push_stops(text: &str, out: &mut Vec<u64>) -> Result<(), AllocError>
     Ok(())
 }
 
-// How many units the cluster takes.
+// Returns the number of UTF-16 units of the cluster.
 fn width(cluster: &str) -> u64
     ensures units { result ≡ width cluster.now }
     ensures within { result ≤ length cluster.now }

@@ -1,4 +1,4 @@
--- Pieces that are written anew: the text stays as it is, and there are fewer pieces.
+-- Rewriting adjacent pieces as one: the text is unchanged, and there are fewer pieces.
 use Rattle.std.proofs.Common.{◌≡◌, ℕ, ◌+◌, ◌-◌, ◌<◌, ◌≤◌, false, Option, List, [], ◌∷◌, ◌++◌, length, take, drop, min, refl, ap, sym, subst, ◌∙◌, append_assoc, arith}
 use Rattle.std.specs.List.{All}
 use Rattle.std.proofs.lemmas.List.{append-nil, length-append, map-append, length-map, length-take-le, length-drop, take_at, drop_at, drop_all}
@@ -8,7 +8,7 @@ use Rattle.chunk_buffers.specs.Chunks.{Extends}
 use Rattle.piece_tree.specs.declared.piece.Piece.{Piece}
 use Rattle.piece_tree.specs.declared.piece.Found.{Found}
 use Rattle.piece_tree.specs.declared.tree.Stretch.{Stretch}
-use Rattle.piece_tree.specs.Pieces.{Entry, pieces_of, unit_count, entry_found, IsPieceOf, IsFound, IsStretch, HasUnit, spliced}
+use Rattle.piece_tree.specs.Pieces.{Entry, pieces_of, unit_count, in_run, IsPieceOf, IsFound, IsStretch, HasUnit, spliced}
 use Rattle.piece_tree.proofs.Sums.{All-parts}
 use Rattle.text_rules.specs.Breaks.{joins_pair}
 use Rattle.text_buffer.specs.Text.{spelled, IsUnsplit, IsAdded}
@@ -107,19 +107,16 @@ module _ (b : List (List ℕ)) (ps us mid vs : List Piece) (is : ps ≡ us ++ mi
 
 -- where the pieces of a stretch stand
 module _ (entries : List Entry) (near : Found) (stretch : Stretch) (is : IsStretch entries near stretch) where
-  entries_place : entries ≡ (is.earlier ++ is.within) ++ is.later
-  entries_place =
-      let n : Entry = entry_found near in
-      let regrouped : (is.earlier ++ is.before) ++ n ∷ (is.behind ++ is.later) ≡ (is.earlier ++ (is.before ++ n ∷ is.behind)) ++ is.later = simp append_assoc in
-      is.place.place ∙ (λ i. is.place_earlier i ++ n ∷ is.place_later i) ∙ regrouped ∙ ap (λ w. (is.earlier ++ w) ++ is.later) (sym is.all)
+  abbrev within : List Entry
+  within = in_run near.id.run entries
 
-  pieces_place : pieces_of entries ≡ pieces_of is.earlier ++ pieces_of is.within ++ pieces_of is.later
+  pieces_place : pieces_of entries ≡ pieces_of is.earlier ++ pieces_of within ++ pieces_of is.later
   pieces_place =
-      ap pieces_of entries_place ∙ map-append (λ (e : Entry). e.piece) (is.earlier ++ is.within) is.later
-      ∙ ap (λ ps. ps ++ pieces_of is.later) (map-append (λ (e : Entry). e.piece) is.earlier is.within)
+      ap pieces_of is.place ∙ map-append (λ (e : Entry). e.piece) (is.earlier ++ within) is.later
+      ∙ ap (λ ps. ps ++ pieces_of is.later) (map-append (λ (e : Entry). e.piece) is.earlier within)
 
   stretch_start : stretch.first.before.units ≡ unit_count (pieces_of is.earlier)
-  stretch_start = ap (λ s. s.units) is.first.before ∙ ap (λ es. unit_count (pieces_of es)) is.first_earlier
+  stretch_start = ap (λ s. s.units) is.first.before ∙ ap (λ es. unit_count (pieces_of es)) is.before
 
 -- the looked-up piece is not empty
 found_full : (entries : List Entry) (found : Found) → IsFound entries found → All IsFull (pieces_of entries) → 0 < found.span.units
@@ -141,7 +138,7 @@ pub rewritten : (old b : List (List ℕ)) (entries : List Entry) (near : Found) 
     → spelled old (pieces_of entries) ≡ x → start ≡ stretch.first.before.units → end ≡ start + stretch.units → units ≡ take stretch.units (drop start x)
     → IsAdded b span units → new ≡ spliced b start end span (pieces_of entries) → IsRewritten b (pieces_of entries) new x stretch.pieces
 rewritten old b entries near stretch new span x units start end is grown all full unsplit text start_is end_is units_are added new_is =
-    let ps = pieces_of entries in let us = pieces_of is.earlier in let mid = pieces_of is.within in let vs = pieces_of is.later in
+    let ps = pieces_of entries in let us = pieces_of is.earlier in let mid = pieces_of (in_run near.id.run entries) in let vs = pieces_of is.later in
     let place = pieces_place entries near stretch is in
     let first : start ≡ unit_count us = start_is ∙ stretch_start entries near stretch is in
     let within : end ≤ length x = end_within old ps us mid vs place all full x text start stretch.units end first is.units end_is in
@@ -162,7 +159,7 @@ rewritten old b entries near stretch new span x units start end is grown all ful
         stretch_gives_way b us mid vs ps start end span place full first (omega (arith, end_is, first, is.units)),
         ap length new_is,
         is.pieces,
-        length-map is.within (λ (e : Entry). e.piece),
+        length-map (in_run near.id.run entries) (λ (e : Entry). e.piece),
       );
     }
 
@@ -171,7 +168,7 @@ module _ (b : List (List ℕ)) (entries : List Entry) (near : Found) (stretch : 
     (full : All IsFull (pieces_of entries)) (x : List ℕ) (text : spelled b (pieces_of entries) ≡ x) where
   pub stretch_within : stretch.first.before.units + stretch.units ≤ length x
   stretch_within =
-      end_within b (pieces_of entries) (pieces_of is.earlier) (pieces_of is.within) (pieces_of is.later) (pieces_place entries near stretch is) all full x text
+      end_within b (pieces_of entries) (pieces_of is.earlier) (pieces_of (in_run near.id.run entries)) (pieces_of is.later) (pieces_place entries near stretch is) all full x text
       stretch.first.before.units stretch.units (stretch.first.before.units + stretch.units) (stretch_start entries near stretch is) is.units refl
 
   pub stretch_unit : HasUnit entries stretch.first stretch.first.before.units

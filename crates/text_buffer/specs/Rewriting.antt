@@ -1,4 +1,4 @@
--- Pieces that are written anew.
+-- Adjacent pieces that are rewritten as one.
 use Rattle.std.specs.Prelude.{ℕ, ◌+◌, ◌<◌, ◌≤◌, List, length}
 use Rattle.line_starts.specs.Starts.{break_count}
 use Rattle.piece_tree.specs.declared.piece.Found.{Found}
@@ -8,7 +8,7 @@ use Rattle.text_buffer.specs.declared.room.TheConstants.{MOST_REWRITTEN}
 use Rattle.text_buffer.specs.declared.text.rewriting.TheConstants.{LEAST_REWRITTEN}
 use Rattle.text_buffer.specs.Room.{Room}
 
--- the most units that are written anew at once
+-- the most units that are rewritten at once
 abbrev pub most_rewritten : ℕ
 most_rewritten = MOST_REWRITTEN
 

@@ -18,7 +18,7 @@ use crate::view::View;
 use chunk_buffers::Chunks;
 use piece_tree::Found;
 use steps::Steps;
-use text_lengths::{Position, Span};
+use text_lengths::Position;
 use unit_text::Kind;
 
 /// An offset of the text, and the piece that was looked up there, if any. The next look-up nearby tries that piece first.
@@ -172,26 +172,6 @@ impl View<'_> {
         Place {
             offset: end - 1 - one_if(is_pair),
             found: Some(found),
-        }
-    }
-
-    /// Returns the span of the content of a line. Steps are not counted.
-    pub(crate) fn line_span(&self, n: u64) -> Span
-        requires view { IsView self.now }
-        requires first { 0 < n }
-        requires there { n ≤ length (lines_of (units_in self.now)) }
-        ensures start { result.start
-            ≡ line_start (units_in self.now) n }
-        ensures content { (d : Line) → result.end ≡ result.start + length (slice_index_or
-            (lines_of (units_in self.now)) (n - 1) d).content }
-        ensures within { result.end ≤ length (units_in self.now) }
-    {
-        let mut steps = Steps::new();
-        let start = self.start_after(&None, n - 1, &mut steps);
-        let end = self.content_end(n, &start, &mut steps);
-        Span {
-            start: start.offset,
-            end: end.offset,
         }
     }
 

@@ -9,7 +9,7 @@ ghost use Rattle.unit_text.specs.Kinds.{IsOfKind, is_place_in};
 ghost use Rattle.text_rules.specs.Positions.{position_of, is_position, offset_of};
 ghost use Rattle.text_rules.specs.Edits.{edited};
 ghost use Rattle.text_rules.specs.Dirty.{dirty_lines, replaced};
-ghost use Rattle.text_rules.specs.Lines.{Line, lines_of, line_at, line_start};
+ghost use Rattle.text_rules.specs.Lines.{Line, lines_of, line_at};
 ghost use Rattle.text_buffer.specs.Again.{TypesOn, CanTypeOn};
 ghost use Rattle.text_buffer.specs.Along.{LeavesLittle};
 ghost use Rattle.text_buffer.specs.Edits.{joins_of, IsTyped, AreSameBefore, AreSameBehind};
@@ -37,9 +37,9 @@ use text_lengths::{Dirty, Position, Span};
 use text_rules::Op;
 use unit_text::{CARRIAGE_RETURN, Flat, Kind, LINE_FEED};
 
-/// One text. Contracts see its units, and the spans that spell them.
+/// One text. Contracts see its units, and the spans of its pieces.
 ///
-/// All its line endings are those of its kind. No CR LF lies across the border of two pieces, and no piece is empty.
+/// All its line endings are of its kind. No CR LF is split between two pieces, and no piece is empty.
 #[derive(Drop)]
 pub struct TextBuffer {
     pieces: PieceTree,
@@ -73,7 +73,7 @@ impl TextBuffer {
         }
     }
 
-    /// A buffer of this text, which is of the kind. It fails where memory is short, and for a text of 2^32 units or more.
+    /// Makes a text of these units, whose line endings are of the kind. Fails if memory is short or there are 2^32 units or more.
     pub fn of_units(alloc: Global, units: &[u16], kind: Kind) -> Result<TextBuffer, AllocError>
         requires { IsOfKind kind units.now }
         ensures units { IfOk result (λ text. text.units ≡ units.now) }
@@ -84,7 +84,7 @@ impl TextBuffer {
         TextBuffer::of_vec(alloc, copy, kind)
     }
 
-    /// `of_units`, of units that it takes over: none is copied.
+    /// Like `of_units`, but takes over the units and copies none.
     pub fn of_vec(alloc: Global, units: Vec<u16>, kind: Kind) -> Result<TextBuffer, AllocError>
         requires { IsOfKind kind units.items }
         ensures units { IfOk result (λ text. text.units ≡ units.items) }
@@ -110,8 +110,8 @@ impl TextBuffer {
         })
     }
 
-    /// Makes room for the edits, and where there is memory for it also for pieces that `rewrite_crowded` writes anew after them. It fails
-    /// where memory is short for the edits, and where these have 2^32 units or more. An error leaves the text as it was.
+    /// Reserves room for edits, and if there is memory for it also for pieces that `rewrite_crowded` rewrites after them. Fails if memory is
+    /// short for the edits, or these have 2^32 units or more. On an error the text is unchanged.
     pub fn reserve(&mut self, need: Need) -> Result<(), AllocError>
         ensures room { OnOk result (IsEnough self.new.room need) }
         ensures kept { KeepsRoom self.old.room self.new.room }
@@ -122,12 +122,12 @@ impl TextBuffer {
         ensures appended { unit_count self.new.buffers ≡ unit_count self.old.buffers }
     {
         self.make_room(need)?;
-        // Where memory is short, no pieces are written anew.
+        // If memory is short, no pieces are rewritten.
         let _more = self.make_room(need.with_rewriting());
         Ok(())
     }
 
-    // Makes room for these edits alone.
+    // Reserves room for the edits only.
     fn make_room(&mut self, need: Need) -> Result<(), AllocError>
         ensures room { OnOk result (IsEnough self.new.room need) }
         ensures kept { KeepsRoom self.old.room self.new.room }
@@ -142,7 +142,7 @@ impl TextBuffer {
         self.pieces.reserve(need.edits)
     }
 
-    /// How many units the text has.
+    /// Returns the length of the text in units.
     pub fn len(&self) -> u64
         ensures units { result ≡ length self.now.units }
         ensures small { result < 2 ^ 62 }
@@ -150,21 +150,21 @@ impl TextBuffer {
         self.view().len()
     }
 
-    /// How many lines the text has.
+    /// Returns the number of lines.
     pub fn line_count(&self) -> u64
         ensures { result ≡ length (lines_of self.now.units) }
     {
         self.view().line_count()
     }
 
-    /// The buffers in which the text lies.
+    /// Returns the buffers that the pieces refer to.
     pub fn chunks(&self) -> &Chunks
         ensures { result.now.buffers ≡ self.now.buffers }
     {
         &self.chunks
     }
 
-    /// Appends the spans that spell the text. An error leaves `out` as it was.
+    /// Appends the spans of the pieces, in order. On an error `out` is unchanged.
     pub fn spans(&self, out: &mut Vec<ChunkSpan>) -> Result<(), AllocError>
         ensures spelled { self.now.units ≡ flat_map (units_at self.now.buffers) self.now.spans }
         ensures inside { All (LiesIn self.now.buffers) self.now.spans }
@@ -174,8 +174,8 @@ impl TextBuffer {
         self.pieces.spans(out)
     }
 
-    /// The offset of the position; None where it is no position of the text. The pieces that it looks up are remembered, as
-    /// `seek` does, for the edit that comes next.
+    /// Converts a position into an offset; None if the position is invalid. The looked-up pieces are remembered for the next edit, as by
+    /// `seek`.
     pub fn locate(&mut self, position: Position) -> Option<u64>
         ensures offset { result ≡ (if is_position self.old.units position
             then Some (offset_of self.old.units position) else None) }
@@ -187,17 +187,17 @@ impl TextBuffer {
         Some(offset)
     }
 
-    /// Looks up the pieces that have the units where the spans of the ops start and end, beside those that were located before, and
-    /// remembers each until the text is changed at it or before it: what is asked next at these places is answered without a search,
-    /// and so the ops are carried out from the last to the first. Where memory is short it does nothing.
+    /// Looks up the pieces at both ends of the spans of the ops, and remembers them in addition to those located before. Each is remembered
+    /// until the text changes at it or before it, so the ops need no search if they are carried out from the last to the first. Does nothing
+    /// if memory is short.
     pub fn seek(&mut self, ops: &[Op])
         ensures { self.new ≡ self.old }
     {
         look_up_all(&self.pieces, ops, &mut self.remembered);
     }
 
-    /// Puts the text in the place of the span, and answers which lines it touched, as `dirty_lines` does. What it leaves of a
-    /// piece that it cuts, where that is little, comes with the text. It takes no memory.
+    /// Replaces the span by the text, and returns the lines that this touched, as `dirty_lines` does. If only few units are left of a cut
+    /// piece, they are appended with the text. It takes no memory.
     pub fn replace(&mut self, span: Span, text: &[u16]) -> Dirty
         requires ordered { span.start ≤ span.end }
         requires within { span.end ≤ length self.old.units }
@@ -229,8 +229,8 @@ impl TextBuffer {
         self.replace_again(span, text, &mut None)
     }
 
-    /// `replace`, of a text that may lie in the buffers since it was put in before: where it lies at the place, and nothing comes with
-    /// it, it is not appended. The place tells then where it lies. Nothing rests on what it told.
+    /// Like `replace`, for a text that may still be in the buffers, as after an undo. If it is at `place` and no units come with it, it is
+    /// not appended. Sets `place` to where the text is now. Any `place` is allowed.
     pub fn replace_again(
         &mut self,
         span: Span,
@@ -283,8 +283,7 @@ impl TextBuffer {
         dirty
     }
 
-    /// Puts this text, all of whose line endings are of the kind, in the place of the whole text, for which there is room. It takes
-    /// no memory.
+    /// Replaces the whole text by these units, whose line endings are of the kind. Room for them is reserved. It takes no memory.
     pub fn recast(&mut self, kind: Kind, units: &[u16])
         requires endings { IsOfKind kind units.now }
         requires small { length units.now < 2 ^ 62 }
@@ -300,8 +299,8 @@ impl TextBuffer {
         self.recast_again(kind, units, &mut None);
     }
 
-    /// `recast`, of a text that may lie in the buffers since it was put in before: where it lies at the place, it is not appended.
-    /// The place tells then where it lies. Nothing rests on what it told.
+    /// Like `recast`, for a text that may still be in the buffers. If it is at `place`, it is not appended. Sets `place` to where the text is
+    /// now. Any `place` is allowed.
     pub fn recast_again(&mut self, kind: Kind, units: &[u16], place: &mut Option<ChunkSpan>)
         requires endings { IsOfKind kind units.now }
         requires small { length units.now < 2 ^ 62 }
@@ -327,14 +326,14 @@ impl TextBuffer {
         self.kind = kind;
     }
 
-    /// A reader of its lines, for one after another.
+    /// Returns a reader of the lines, for one after another.
     pub fn lines(&self) -> LineReader<'_>
         ensures { result ≡ self.now.units }
     {
         LineReader::new(&self.view())
     }
 
-    /// Appends the content of the line of this number, counted from 1. An error leaves `out` as it was.
+    /// Appends the content of a line, counted from 1. On an error `out` is unchanged.
     pub fn line(&self, n: u64, out: &mut Vec<u16>) -> Result<(), AllocError>
         requires first { 0 < n }
         requires there { n ≤ length (lines_of self.now.units) }
@@ -345,7 +344,7 @@ impl TextBuffer {
         self.lines().line(n, out)
     }
 
-    /// The position of the offset; None where the offset is no place of the text. Each node that is visited is a step.
+    /// Converts an offset into a position; None if the offset is invalid. Each visited node is a step.
     pub fn position_at<L>(&self, offset: u64, steps: &mut Steps<L>) -> Option<Position>
         ensures position { result ≡ (if is_place_in self.now.kind self.now.units offset
             then Some (position_of self.now.units offset) else None) }
@@ -354,7 +353,7 @@ impl TextBuffer {
         self.view().position_at(self.kind, offset, steps)
     }
 
-    /// The offset of the position; None where it is no position of the text. Each node that is visited is a step.
+    /// Converts a position into an offset; None if the position is invalid. Each visited node is a step.
     pub fn offset_at<L>(&self, position: Position, steps: &mut Steps<L>) -> Option<u64>
         ensures offset { result ≡ (if is_position self.now.units position
             then Some (offset_of self.now.units position) else None) }
@@ -363,15 +362,7 @@ impl TextBuffer {
         self.view().offset_at(position, steps)
     }
 
-    /// `position_at`, with steps that nobody counts.
-    pub fn position(&self, offset: u64) -> Option<Position>
-        ensures { result ≡ (if is_place_in self.now.kind self.now.units offset
-            then Some (position_of self.now.units offset) else None) }
-    {
-        self.position_at(offset, &mut Steps::new())
-    }
-
-    /// `offset_at`, with steps that nobody counts.
+    /// Like `offset_at`, without counting steps.
     pub fn offset(&self, position: Position) -> Option<u64>
         ensures { result ≡ (if is_position self.now.units position
             then Some (offset_of self.now.units position) else None) }
@@ -379,21 +370,8 @@ impl TextBuffer {
         self.offset_at(position, &mut Steps::new())
     }
 
-    /// Where the content of the line of this number stands, counted from 1.
-    #[tactic(auto, using(crate::proofs::Contents::line_at_is))]
-    pub fn line_span(&self, n: u64) -> Span
-        requires first { 0 < n }
-        requires there { n ≤ length (lines_of self.now.units) }
-        ensures start { result.start ≡ line_start self.now.units n }
-        ensures content { (line : Line) → line_at self.now.units n ≡ Some line
-            → result.end ≡ result.start + length line.content }
-        ensures within { result.end ≤ length self.now.units }
-    {
-        self.view().line_span(n)
-    }
-
-    /// Which lines of the text an edit touches that puts these units in the place of the span, and
-    /// how many lines stand in their place after it. The other lines stay. It takes no memory.
+    /// Returns the lines that an edit would touch that replaces the span by these units, and the number of lines that would replace them.
+    /// All other lines stay the same. It takes no memory.
     #[tactic(auto, using(crate::proofs::Touched::before_dirty, crate::proofs::Touched::after_dirty))]
     pub fn dirty_lines(&self, span: Span, text: &[u16]) -> Dirty
         requires ordered { span.start ≤ span.end }
@@ -407,7 +385,7 @@ impl TextBuffer {
         view.dirty_between(&ends, view.joins_of(&ends, text), text)
     }
 
-    /// Appends the units of the span. An error leaves `out` as it was.
+    /// Appends the units of the span. On an error `out` is unchanged.
     pub fn value(&self, span: Span, out: &mut Vec<u16>) -> Result<(), AllocError>
         requires ordered { span.start ≤ span.end }
         requires within { span.end ≤ length self.now.units }
@@ -420,7 +398,7 @@ impl TextBuffer {
         Ok(())
     }
 
-    /// Reads units from the offset on into `out`: as many as fit and are there. Answers how many.
+    /// Reads units from the offset on into `out`, as many as fit and exist. Returns their number.
     pub fn read_into(&self, at: u64, out: &mut [u16]) -> usize
         requires within { at ≤ length self.now.units }
         ensures count { result ≡ min (length out.old) (length self.now.units - at) }
@@ -429,7 +407,7 @@ impl TextBuffer {
         self.runs_from(at).read_into(out)
     }
 
-    /// A reader of its units from the offset on, run by run.
+    /// Returns a reader of the units from the offset on, run by run.
     pub fn runs_from(&self, offset: u64) -> Runs<'_>
         requires { offset ≤ length self.now.units }
         ensures left { result.left ≡ rest_from offset (runs_of self.now.buffers self.now.spans) }

@@ -4,7 +4,7 @@ use Rattle.std.proofs.lemmas.Grind.{common_steps}
 use Rattle.text_lengths.specs.declared.Length.{Length}
 use Rattle.text_lengths.specs.Length.{length_of, no_length, length_plus}
 
--- two lengths with the same lines and columns are one
+-- two lengths with the same lines and columns are equal
 pub same_length : (l m : Length) → l.lines ≡ m.lines → l.columns ≡ m.columns → l ≡ m
 same_length l m same_lines same_columns =
     let with_lines : ℕ → Length = λ n. length_of n l.columns in

@@ -3,15 +3,15 @@
 use Rattle.std.specs.Prelude.{◌≡◌, ℕ, ◌+◌, Bool, ◌==◌, nat_lt, ◌||◌, ◌&&◌, if◌then◌else◌, true, false, refl}
 use Rattle.text_lengths.specs.declared.Length.{Length}
 
--- a length of so many lines and columns
+-- the length with these numbers of lines and columns
 abbrev pub length_of : ℕ → ℕ → Length
 length_of lines columns = record { lines = lines; columns = columns }
 
--- the length of no text
+-- the length of the empty text
 abbrev pub no_length : Length
 no_length = length_of 0 0
 
--- one text after another: the second's columns stand alone where it has a line break
+-- the length of two texts in sequence: the columns of the second alone if it has a line break, else the sum
 abbrev pub length_plus : Length → Length → Length
 length_plus a b = record {
   lines = a.lines + b.lines;

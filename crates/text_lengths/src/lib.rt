@@ -1,38 +1,38 @@
-//! Places in a text: offsets, positions, spans, touched lines and lengths. No call takes memory.
+//! Offsets, positions, spans, touched lines and lengths of texts. No function allocates.
 #![tactic(auto)]
 
 ghost use Rattle.std.specs.Prelude.{◌≡◌, ◌+◌, ◌^◌, ◌<◌, ◌≤◌, ◌↔◌, IsTrue, IsNone, IfSome};
 ghost use Rattle.text_lengths.specs.Length.{length_plus, is_before};
 
-/// The greatest version, decoration id and snapshot id: 2^63 - 1.
+/// The largest version, decoration id and snapshot id: 2^63 - 1.
 pub const GREATEST_NUMBER: u64 = (1 << 63) - 1;
 
-/// A place as a line and a column, both counted from 1. A column counts UTF-16 code units.
+/// A line number and a column, both counted from 1. A column counts UTF-16 code units.
 #[derive(Clone, Copy, PartialEq, Eq, Debug)]
 pub struct Position {
     pub line: u64,
     pub column: u64,
 }
 
-/// The units from offset `start` up to offset `end`, both counted from 0.
+/// The range of UTF-16 code units from offset `start` up to, but not including, offset `end`. Offsets count from 0.
 #[derive(Clone, Copy, PartialEq, Eq, Debug)]
 pub struct Span {
     pub start: u64,
     pub end: u64,
 }
 
-/// The lines of a text that an edit touches.
+/// The range of lines that an edit touches.
 #[derive(Clone, Copy, PartialEq, Eq, Debug)]
 pub struct Dirty {
-    /// The number of the first of them, counted from 1.
+    /// The number of the first touched line, counted from 1.
     pub first: u64,
-    /// How many of them the text has before the edit.
+    /// The number of touched lines before the edit.
     pub old: u64,
-    /// How many lines stand in their place after it.
+    /// The number of lines that replace them after the edit.
     pub new: u64,
 }
 
-/// What a text measures: its line breaks, and the units after the last of them.
+/// The length of a text: the number of its line breaks, and the number of units after the last break.
 #[derive(Clone, Copy, PartialEq, Eq, Debug)]
 pub struct Length {
     pub lines: u64,
@@ -40,7 +40,7 @@ pub struct Length {
 }
 
 impl Length {
-    /// The length of a text of this length with one of length `other` after it.
+    /// Returns the length of the concatenation of a text of length `self` and a text of length `other`.
     pub fn plus(&self, other: &Length) -> Length
         requires lines { self.now.lines + other.now.lines < 2 ^ 64 }
         requires columns { (length_plus self.now other.now).columns < 2 ^ 64 }
@@ -55,8 +55,8 @@ impl Length {
         Length { lines, columns }
     }
 
-    /// What is left of a text of this length after a front of length `prefix`; None where the
-    /// front is the greater.
+    /// Returns the length of the rest of a text of length `self` after a prefix of length `prefix`; None if `prefix` is
+    /// greater than `self`.
     pub fn minus_prefix(&self, prefix: &Length) -> Option<Length>
         ensures none { IsNone result ↔ IsTrue (is_before self.now prefix.now) }
         ensures rest { IfSome result (λ rest. length_plus prefix.now rest ≡ self.now) }
@@ -73,7 +73,7 @@ impl Length {
         Some(Length { lines, columns })
     }
 
-    /// Whether this is the smaller: by lines, then by columns.
+    /// Returns whether `self` is less than `other`: lines are compared first, then columns.
     pub fn before(&self, other: &Length) -> bool
         ensures { result ≡ is_before self.now other.now }
     {
@@ -81,7 +81,7 @@ impl Length {
     }
 }
 
-/// `n + by`, or None where that passes [`GREATEST_NUMBER`].
+/// Returns `n + by`; None if the sum exceeds [`GREATEST_NUMBER`].
 pub fn raised(n: u64, by: u64) -> Option<u64>
     ensures none { IsNone result ↔ (GREATEST_NUMBER < n + by) }
     ensures some { IfSome result (λ sum. sum ≡ n + by) }

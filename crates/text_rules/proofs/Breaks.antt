@@ -1,4 +1,4 @@
--- The places at which the breaks of a text end, and its lines by them.
+-- The end offsets of the breaks of a text, and its lines computed from them.
 use Rattle.std.proofs.Common.{◌≡◌, ℕ, zero, suc, ◌+◌, ◌-◌, ◌<◌, ◌≤◌, ◌==◌, leb, Bool, cond, true, false, ◌&&◌, ◌||◌, if◌then◌else◌, List, [], ◌∷◌, ◌++◌, length, take, drop, get_or, map, sum_by, refl, ap, sym, ◌∙◌, add_assoc, zero-add, add-zero, inl, inr, arith}
 use Rattle.std.specs.List.{range_with_len}
 use Rattle.std.specs.List.Sorted.{IsNonDecreasingBy}
@@ -9,7 +9,7 @@ use Rattle.std.proofs.lemmas.List.FromFn.{length-map-range_with_len, get_or-map-
 use Rattle.text_rules.specs.Lines.{Line, lines_of, line_length, line_start, line_feed, carriage_return, begins_with, in_first_line, in_first_break}
 use Rattle.text_rules.specs.Breaks.{ends_break, break_ends, ends_with, joins_pair, count_to}
 
--- the places at which lines start, the first of them at a place
+-- the start offsets of lines, the first of which starts at `at`
 abbrev pub starts_from : ℕ → List Line → List ℕ
 starts_from at [] = []
 starts_from at (line ∷ lines) = at ∷ starts_from (at + line_length line) lines
@@ -52,7 +52,7 @@ line_start_at x k n d h e =
     let sum : get_or (starts_from 0 (lines_of x)) k 0 ≡ sum_by line_length (take k (lines_of x)) = get_or-starts_from 0 (lines_of x) k h ∙ zero-add _ in
     get_or_default (starts_from 0 (lines_of x)) k d 0 inside ∙ sum ∙ ap (λ m. sum_by line_length (take m (lines_of x))) (sym before)
 
--- where each line starts
+-- the start offsets of all lines
 pub starts_are : (x : List ℕ) → map (line_start x) (range_with_len 1 (length (lines_of x))) ≡ 0 ∷ break_ends 0 x
 starts_are x =
     let count = length-map-range_with_len (line_start x) 1 (length (lines_of x)) in
@@ -63,13 +63,13 @@ starts_are x =
     ∙ sym (line_start_at x k (k + 1) d within refl))
     ∙ starts_of_lines 0 x
 
--- the start of a line but the first
+-- the start of a line other than the first
 pub line_start_is : (x : List ℕ) (k n : ℕ) → k < length (break_ends 0 x) → n ≡ k + 2 → line_start x n ≡ get_or (break_ends 0 x) k 0
 line_start_is x k n h e =
     let within : suc k < length (lines_of x) = omega (arith, line_count_is x) in
     sym (line_start_at x (suc k) n 0 within (omega arith)) ∙ ap (λ s. get_or s (suc k) 0) (starts_of_lines 0 x)
 
--- the same text from another place on
+-- the end offsets in the same text at another start offset
 pub break_ends_moved : (by at : ℕ) (x : List ℕ) → break_ends (by + at) x ≡ map (λ e. by + e) (break_ends at x)
 break_ends_moved by at [] = refl
 break_ends_moved by at (u ∷ after) =
@@ -90,7 +90,7 @@ ends_break_before true lf true e = cc
 ends_break_before true lf false e = refl
 ends_break_before false lf joined e = refl
 
--- the breaks of a text are those of its parts, where no CR LF lies across
+-- the breaks of a text are those of its two parts, unless a CR LF lies across the border
 pub break_ends-append : (at : ℕ) (x y : List ℕ) → joins_pair x y ≡ false → break_ends at (x ++ y) ≡ break_ends at x ++ break_ends (at + length x) y
 break_ends-append at [] y apart = ap (λ n. break_ends n y) (sym (add-zero at))
 break_ends-append at (u ∷ []) y apart =
@@ -110,7 +110,7 @@ count_to_none at place (u ∷ after) h =
     elim (ends_break u after) as (λ b. count_to place (cond b ((at + 1) ∷ break_ends (at + 1) after) (break_ends (at + 1) after)) ≡ 0)
     [ true ↦ rw (lt-leb (at + 1) place (omega arith)) | false ↦ count_to_none (at + 1) place after (omega arith) ]
 
--- the breaks that end past a place are those of the text from there on
+-- the breaks that end after an offset are those of the text from the offset on
 pub drop-count_to : (at n place : ℕ) (x : List ℕ) → place ≡ at + n → drop (count_to place (break_ends at x)) (break_ends at x) ≡ break_ends place (drop n x)
 drop-count_to at zero place x e =
     let here : at ≡ place = omega arith in
@@ -135,7 +135,7 @@ take_more : (at place : ℕ) (breaks : Bool) (taken ends tail : List ℕ) → at
 take_more at place true taken ends tail h e = rw (le-leb (at + 1) place h, one_more) (ap (λ s. (at + 1) ∷ s) e)
 take_more at place false taken ends tail h e = e
 
--- the breaks of a front are those that end in it, and one more where the cut leaves a CR without its LF
+-- the breaks of a prefix are those that end in it, and one more if the cut separates a CR from its LF
 pub break_ends-take : (at n place : ℕ) (x : List ℕ) → place ≡ at + n
     → break_ends at (take n x) ≡ take (count_to place (break_ends at x)) (break_ends at x) ++ (if joins_pair (take n x) (drop n x) then place ∷ [] else [])
 break_ends-take at zero place x e = rw (count_to_none at place x (omega arith))
@@ -148,7 +148,7 @@ break_ends-take at (suc (suc n)) place (u ∷ v ∷ after) e =
     take_more at place (ends_break u (v ∷ after)) (break_ends (at + 1) (take (suc n) (v ∷ after))) (break_ends (at + 1) (v ∷ after)) _ (omega arith)
     (break_ends-take (at + 1) (suc n) place (v ∷ after) (omega arith))
 
--- places up to a second one, from the first one on
+-- the number of end offsets up to `second` is the number up to `first` plus those after it
 pub count_to-drop : (first second : ℕ) (ends : List ℕ) → first ≤ second
     → count_to first ends + count_to second (drop (count_to first ends) ends) ≡ count_to second ends
 count_to-drop first second [] h = refl
@@ -158,7 +158,7 @@ count_to-drop first second (e ∷ ends) h =
       | inr within ↦ rw (le-leb e first within, le-leb e second (omega arith), one_more) (omega (arith, count_to-drop first second ends h))
     ]
 
--- a place before a second one, among those up to the second one and a later tail
+-- a tail of greater offsets does not change the number of end offsets up to `first`
 pub count_to-take : (first second : ℕ) (ends tail : List ℕ) → first ≤ second → count_to first tail ≡ 0
     → count_to first (take (count_to second ends) ends ++ tail) ≡ count_to first ends
 count_to-take first second [] tail h later = later
@@ -208,7 +208,7 @@ break_ends_ascend at (u ∷ after) =
       | false ↦ break_ends_ascend (at + 1) after
     ]
 
--- the last unit and the first one, by their places
+-- the last and the first unit, given by index
 pub ends_with_last : (x : List ℕ) → ends_with carriage_return x ≡ (get_or x (length x - 1) 0 == carriage_return)
 ends_with_last [] = refl
 ends_with_last (u ∷ []) = refl
@@ -220,7 +220,7 @@ pub begins_with_first : (x : List ℕ) → begins_with line_feed x ≡ (get_or x
 begins_with_first [] = refl
 begins_with_first (u ∷ x) = refl
 
--- a cut that lies in a CR LF
+-- the condition for a cut inside a CR LF
 pub joins_pair_at : (n : ℕ) (x : List ℕ) → 0 < n → n ≤ length x
     → joins_pair (take n x) (drop n x) ≡ (get_or x (n - 1) 0 == carriage_return && get_or x n 0 == line_feed)
 joins_pair_at n x some inside =
@@ -239,7 +239,7 @@ break_ends_few at (u ∷ after) =
     elim (ends_break u after) as (λ b. length (cond b ((at + 1) ∷ break_ends (at + 1) after) (break_ends (at + 1) after)) ≤ length (u ∷ after))
     [ true ↦ omega arith | false ↦ omega arith ]
 
--- places that are all at most this one, and later ones
+-- all end offsets are counted if the text ends at or before `place`
 pub count_to_all : (at place : ℕ) (x : List ℕ) → at + length x ≤ place → count_to place (break_ends at x) ≡ length (break_ends at x)
 count_to_all at place [] h = refl
 count_to_all at place (u ∷ after) h =

@@ -1,4 +1,4 @@
--- The lines beside those that an edit touches, and how many it leaves in their place.
+-- The lines outside those that an edit touches, and the number of lines that replace the touched ones.
 use Rattle.std.proofs.Common.{◌≡◌, ℕ, zero, suc, ◌+◌, ◌-◌, ◌<◌, ◌≤◌, ◌==◌, leb, ltb, Bool, true, false, ◌&&◌, ◌||◌, if◌then◌else◌, List, [], ◌∷◌, ◌++◌, length, take, drop, get_or, refl, ap, sym, ◌∙◌, append_assoc, add-zero, arith}
 use Rattle.std.proofs.lemmas.Bool.{le-leb, lt-ltb, ltb-true, eqb-true, and_parts}
 use Rattle.std.proofs.lemmas.List.{length-append, length-map, length-take-le, length-drop, get_or-drop, get_or-take, take_at, drop_at, take_more, take-take, take-append-le}
@@ -29,7 +29,7 @@ drop-in_first_break : (u n : ℕ) (ls : List Line) → drop (suc n) (in_first_br
 drop-in_first_break u n [] = refl
 drop-in_first_break u n (l ∷ ls) = refl
 
--- ---- the lines after that of a place
+-- ---- the lines after the line of an offset
 
 after_step : (at place u : ℕ) (joins breaks : Bool) (ls rest : List Line) (ends : List ℕ) → at + 1 ≤ place → drop (suc (count_to place ends)) ls ≡ rest
     → drop (suc (count_to place (if (if joins then false else breaks) then (at + 1) ∷ ends else ends)))
@@ -38,7 +38,7 @@ after_step at place u true breaks ls rest ends h e = drop-in_first_break u (coun
 after_step at place u false true ls rest ends h e = rw (le-leb (at + 1) place h, one_more) e
 after_step at place u false false ls rest ends h e = drop-in_first_line u (count_to place ends) ls ∙ e
 
--- they are those of the text from the place on, but for the first of these
+-- they are the lines of the text from the offset on, without its first line
 after_place : (at n place : ℕ) (x : List ℕ) → place ≡ at + n → drop (suc (count_to place (break_ends at x))) (lines_of x) ≡ drop 1 (lines_of (drop n x))
 after_place at zero place x e = ap (λ (k : ℕ). drop (suc k) (lines_of x)) (count_to_none at place x (omega arith))
 after_place at (suc n) place [] e = refl
@@ -46,7 +46,7 @@ after_place at (suc n) place (u ∷ x) e =
     after_step at place u (u == carriage_return && begins_with line_feed x) (u == carriage_return || u == line_feed) (lines_of x) (drop 1 (lines_of (drop n x)))
     (break_ends (at + 1) x) (omega arith) (after_place (at + 1) n place x (omega arith))
 
--- ---- the lines before that of a place
+-- ---- the lines before the line of an offset
 
 before_step : (at place u : ℕ) (joins breaks : Bool) (ls ms : List Line) (ends : List ℕ) → at + 1 ≤ place → take (count_to place ends) ls ≡ take (count_to place ends) ms
     → take (count_to place (if (if joins then false else breaks) then (at + 1) ∷ ends else ends))
@@ -69,7 +69,7 @@ pair_later : (u : ℕ) (x y : List ℕ) → joins_pair (u ∷ x) y ≡ false →
 pair_later u [] y apart = refl
 pair_later u (v ∷ x) y apart = apart
 
--- they are those of the text up to the place, where no CR LF lies across it
+-- they are the lines of the text up to the offset, unless the offset is inside a CR LF
 before_place : (at n place : ℕ) (x : List ℕ) → place ≡ at + n → joins_pair (take n x) (drop n x) ≡ false
     → take (count_to place (break_ends at x)) (lines_of x) ≡ take (count_to place (break_ends at x)) (lines_of (take n x))
 before_place at zero place x e apart =
@@ -81,7 +81,7 @@ before_place at (suc n) place (u ∷ x) e apart =
     (before_step at place u (u == carriage_return && begins_with line_feed x) (u == carriage_return || u == line_feed) (lines_of x) (lines_of (take n x))
     (break_ends (at + 1) x) (omega arith) (before_place (at + 1) n place x (omega arith) (pair_later u (take n x) (drop n x) apart)))
 
--- ---- how many breaks there are
+-- ---- the number of breaks
 
 abbrev pub one_if : Bool → ℕ
 one_if b = if b then 1 else 0
@@ -111,7 +111,7 @@ breaks_of_back n x =
       ap (λ (k : ℕ). length (break_ends k (drop n x))) (sym place) ∙ ap length (break_ends_moved n 0 (drop n x)) ∙ length-map (break_ends 0 (drop n x)) (λ e. n + e),
     )
 
--- two texts have the breaks of both, where a CR and an LF that meet make one of two
+-- the number of breaks of two texts together is the sum, minus one if a CR and an LF meet at the border
 breaks_of_both : (x y : List ℕ) → length (break_ends 0 (x ++ y)) + one_if (joins_pair x y) ≡ length (break_ends 0 x) + length (break_ends 0 y)
 breaks_of_both x y =
     let n : ℕ = length x in
@@ -130,7 +130,7 @@ breaks_of_both x y =
       meet,
     )
 
--- ---- the place from which an edit touches lines
+-- ---- the first offset that an edit touches
 
 pub after_return_is : (x : List ℕ) (place : ℕ) → place ≤ length x → is_after_return x place ≡ ends_with carriage_return (take place x)
 after_return_is x zero within = refl
@@ -159,7 +159,7 @@ touched_within : (place : ℕ) (after : Bool) → (if after then place - 1 else 
 touched_within place true = omega arith
 touched_within place false = omega arith
 
--- a CR at the end of a front is a break of it
+-- a CR at the end of a prefix counts as a break of the prefix
 breaks_before : (x : List ℕ) (place : ℕ) (after : Bool) → is_after_return x place ≡ after → place ≤ length x
     → length (break_ends 0 (take place x)) ≡ length (break_ends 0 (take (if after then place - 1 else place) x)) + one_if after
 breaks_before x place true is within =
@@ -205,7 +205,7 @@ module _ (x : List ℕ) (span : Span) (text : List ℕ) (ordered : span.start �
   reach : span.start ≤ length e
   reach = omega (arith, ap length regrouped, length-append front (text ++ back), long)
 
-  -- up to the edit the text stays
+  -- the text before the edit is unchanged
   same_front : (n : ℕ) → n ≤ span.start → take n e ≡ take n x
   same_front n h =
       ap (take n) regrouped ∙ take-append-le n front (text ++ back) (omega (arith, long)) ∙ take-take n span.start x h
@@ -236,7 +236,7 @@ module _ (x : List ℕ) (span : Span) (text : List ℕ) (ordered : span.start �
   pub f_within : f ≤ count_to span.end (break_ends 0 x)
   f_within = let rise = count_to-drop place span.end (break_ends 0 x) (omega (arith, place_within)) in omega (arith, rise)
 
-  -- the lines before the touched ones stay
+  -- the lines before the touched ones are unchanged
   same_before : take f (lines_of e) ≡ take f (lines_of x)
   same_before =
       ap (λ (k : ℕ). take k (lines_of e)) (sym f_new) ∙ before_place 0 place place e (omega arith) apart_new
@@ -280,13 +280,14 @@ module _ (x : List ℕ) (span : Span) (text : List ℕ) (ordered : span.start �
         breaks_of_back span.end x,
       )
 
-  -- so do the lines after them
+  -- the lines after the touched ones are unchanged
   pub lines_after : drop (first_dirty x span - 1 + new_dirty x span text) (lines_of e) ≡ drop (first_dirty x span - 1 + old_dirty x span) (lines_of x)
   lines_after =
       ap (λ (k : ℕ). drop k (lines_of e)) new_end ∙ after_place 0 after_text after_text e (omega arith) ∙ ap (λ t. drop 1 (lines_of t)) rest_is
       ∙ sym (after_place 0 span.end span.end x (omega arith)) ∙ ap (λ (k : ℕ). drop k (lines_of x)) (sym old_end)
 
-  -- how many lines stand in their place: those of the new text, and the one of a CR before it, where no CR and LF meet
+  -- the number of lines that replace them: the lines of the new text, plus the one of a CR right before the edit, minus
+  -- one for each CR LF that forms at a border
   pub new_is : new_dirty x span text + one_if (joins_pair front (text ++ back)) + one_if (joins_pair text back)
       ≡ length (break_ends 0 text) + 1 + one_if after
   new_is =

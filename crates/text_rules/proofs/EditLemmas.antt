@@ -1,4 +1,4 @@
--- What an edit of a span of the text gives.
+-- Results of an edit of a valid span.
 use Rattle.std.proofs.Common.{◌≡◌, ℕ, ◌+◌, ◌-◌, ◌≤◌, true, false, List, ◌++◌, length, take, drop, length-append, length-drop, arith}
 use Rattle.std.proofs.lemmas.Bool.{ltb-false, leb-true, and_parts, or_parts, not-false}
 use Rattle.std.proofs.lemmas.List.{length-take-le}
@@ -11,14 +11,14 @@ use Rattle.unit_text.proofs.Paired.{IsPaired-cut, IsPaired-append}
 use Rattle.text_rules.specs.declared.Op.{Op}
 use Rattle.text_rules.specs.Edits.{is_bad_span, edited}
 
--- what a span of the text is
+-- the properties of a valid span
 pub record IsSpan (x : List ℕ) (span : Span) : Type 0 where
   pub ordered : span.start ≤ span.end
   pub within : span.end ≤ length x
   pub start : is_place x span.start ≡ true
   pub end : is_place x span.end ≡ true
 
--- the ends of a span that was tested are places of the kind
+-- both ends of a span that passes the test are valid offsets
 pub places_from_test : (kind : Kind) (x : List ℕ) (span : Span) → is_bad_span kind x span ≡ false
     → (is_place_in kind x span.start ≡ true) × (is_place_in kind x span.end ≡ true)
 places_from_test kind x span e = and_parts _ _ (not-false _ (or_parts _ _ e).1)
@@ -49,7 +49,7 @@ IsPaired-edited x op span old text =
     (IsPaired-append (take op.span.start x) op.text (IsPaired-cut x op.span.start span.start old).0 text)
     (IsPaired-cut x op.span.end span.end old).1
 
--- an edit at places of the kind, with a text of it, leaves a text of the kind
+-- an edit at valid offsets with a text of the kind results in a text of the kind
 pub IsOfKind-edited : (kind : Kind) (x : List ℕ) (op : Op) → IsOfKind kind x → IsOfKind kind op.text
     → is_place_in kind x op.span.start ≡ true → is_place_in kind x op.span.end ≡ true → IsOfKind kind (edited x op)
 IsOfKind-edited kind x op old text start end =

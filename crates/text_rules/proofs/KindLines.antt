@@ -1,4 +1,4 @@
--- A text that is normalized has the same lines with other endings.
+-- A normalized text has the same lines with other endings.
 use Rattle.std.proofs.Common.{◌≡◌, ℕ, ◌==◌, Bool, true, false, ◌&&◌, ◌||◌, if◌then◌else◌, List, [], ◌∷◌, ◌++◌, refl, ap, sym, ◌∙◌}
 use Rattle.std.proofs.lemmas.Bool.{eqb-true}
 use Rattle.unit_text.specs.declared.kind.Kind.{Kind}
@@ -12,7 +12,7 @@ use Rattle.text_rules.specs.LineEndings.{lines_with, lines_in}
 abbrev ended_line : List ℕ → Line
 ended_line ending = record { content = []; break = ending }
 
--- the text ends a line, and nothing else stands in it
+-- the text is exactly one line ending
 abbrev IsEnding : List ℕ → Type 0
 IsEnding ending = (x : List ℕ) → lines_of (ending ++ x) ≡ ended_line ending ∷ lines_of x
 
@@ -20,7 +20,7 @@ in_first_line_with : (ending : List ℕ) (u : ℕ) (lines : List Line) → in_fi
 in_first_line_with ending u [] = refl
 in_first_line_with ending u (line ∷ lines) = refl
 
--- a CR that an LF follows is a part of the ending that the LF makes
+-- a CR before an LF is part of the ending of the LF
 in_first_break_with : (ending : List ℕ) (u : ℕ) (after : List ℕ) → begins_with line_feed after ≡ true
     → lines_with ending (in_first_break u (lines_of after)) ≡ lines_with ending (lines_of after)
 in_first_break_with ending u [] e = cc
@@ -46,7 +46,7 @@ lines_with_endings ending (u ∷ after) h =
     lines_step ending u (u == carriage_return) (u == line_feed) (begins_with line_feed after) (with_endings ending after) after h refl refl refl
     (lines_with_endings ending after h)
 
--- the lines of a text that is normalized
+-- the lines of a normalized text
 pub lines_of-normalized : (kind : Kind) (x : List ℕ) → lines_of (normalized kind x) ≡ lines_in kind (lines_of x)
 lines_of-normalized Mixed x = refl
 lines_of-normalized Lf x = lines_with_endings feeds x (λ y. refl)

@@ -1,4 +1,4 @@
--- Positions by the places at which breaks end.
+-- Positions computed from the end offsets of breaks.
 use Rattle.std.proofs.Common.{◌≡◌, ℕ, zero, suc, ◌+◌, ◌-◌, ◌<◌, ◌≤◌, leb, true, false, cond, List, [], ◌∷◌, length, get_or, refl, ap, sym, ◌∙◌, inl, inr, zero-add, arith}
 use Rattle.std.proofs.lemmas.Bool.{lt-ltb, le-ltb, lt-leb, le-leb, cases_lt}
 use Rattle.std.proofs.lemmas.List.Sums.{prefix_len-le-length}
@@ -58,7 +58,7 @@ start_before start offset (e ∷ ends) h =
       | inr within ↦ rw (le-leb e offset within, one_more) (start_before e offset ends within)
     ]
 
--- the line of an offset starts at it or before it
+-- the line of an offset starts at or before it
 pub line_start_before : (x : List ℕ) (offset : ℕ) → line_start x (count_to offset (break_ends 0 x) + 1) ≤ offset
 line_start_before x offset =
     rw (line_start_after x (count_to offset (break_ends 0 x)) (prefix_len-le-length (λ e. leb e offset) (break_ends 0 x)))
@@ -77,6 +77,6 @@ break_ends_below at bound (u ∷ after) h =
       | false ↦ break_ends_below (at + 1) bound after (omega arith)
     ]
 
--- a line that is there starts in the text or at its end
+-- an existing line starts within the text or at its end
 pub line_start_within : (x : List ℕ) (breaks n : ℕ) → breaks < length (break_ends 0 x) → n ≡ breaks + 2 → line_start x n ≤ length x
 line_start_within x breaks n h e = rw (line_start_is x breaks n h e) (break_ends_below 0 (length x) x (omega arith) breaks 0 h)

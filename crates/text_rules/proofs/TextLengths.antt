@@ -1,4 +1,4 @@
--- The length of a text, unit by unit, and of two texts one after another.
+-- The length of a text unit by unit, and the length of two texts in sequence.
 use Rattle.std.proofs.Common.{◌≡◌, ℕ, ◌+◌, ◌<◌, ◌==◌, Bool, true, false, ◌&&◌, ◌||◌, if◌then◌else◌, List, [], ◌∷◌, ◌++◌, length, refl, ap, sym, ◌∙◌, arith}
 use Rattle.std.proofs.lemmas.Bool.{eqb-true, and_parts}
 use Rattle.std.proofs.lemmas.Grind.{common_steps}
@@ -9,7 +9,7 @@ use Rattle.text_rules.specs.Lines.{Line, lines_of, line_feed, carriage_return, b
 use Rattle.text_rules.specs.Breaks.{ends_break, joins_pair}
 use Rattle.text_rules.proofs.Breaks.{line_count_is, and_false}
 
--- what a unit adds: nothing where it joins the break after it, a break, or a column
+-- the length that a unit adds: nothing if it joins the break after it, else one break or one column
 abbrev added_by : Bool → Bool → Length
 added_by joins breaks = if joins then no_length else (if breaks then length_of 1 0 else length_of 0 1)
 
@@ -44,7 +44,7 @@ joins_pair_later : (u : ℕ) (x y : List ℕ) → joins_pair (u ∷ x) y ≡ fal
 joins_pair_later u [] y apart = refl
 joins_pair_later u (v ∷ x) y apart = apart
 
--- lengths add up, where no CR LF lies across
+-- lengths add up, unless a CR LF lies across the border
 pub text_length-append : (x y : List ℕ) → joins_pair x y ≡ false → text_length (x ++ y) ≡ length_plus (text_length x) (text_length y)
 text_length-append [] y apart = sym (none_plus (text_length y))
 text_length-append (u ∷ x) y apart =
@@ -54,7 +54,7 @@ text_length-append (u ∷ x) y apart =
     ∙ sym (length_plus_assoc (added_before u x) (text_length x) (text_length y))
     ∙ ap (λ (a : Length). length_plus a (text_length y)) (sym (text_length_step u x))
 
--- ---- counted from the front
+-- ---- lengths counted from the front
 
 break_after : (lines columns : ℕ) (u : ℕ) (joins breaks : Bool) (t : Length) → (if joins then false else breaks) ≡ true
     → length_plus (length_of lines columns) (length_plus (added_by joins breaks) t) ≡ length_plus (length_of (lines + 1) 0) t
@@ -86,7 +86,7 @@ column_after lines columns true breaks t feed e =
 column_after lines columns false true t feed e = absurd cc
 column_after lines columns false false t feed e = same_length _ _ (grind (arith, common_steps)) (grind (arith, common_steps))
 
--- a unit that ends none: the columns of a CR before an LF are forgotten with the break
+-- a unit that ends no break; the column of a CR before an LF is dropped at the break
 pub counted_column : (lines columns u : ℕ) (after : List ℕ) → ends_break u after ≡ false
     → length_plus (length_of lines columns) (text_length (u ∷ after)) ≡ length_plus (length_of lines (columns + 1)) (text_length after)
 counted_column lines columns u after e =

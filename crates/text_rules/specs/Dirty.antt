@@ -1,4 +1,4 @@
--- Which lines of a text an edit touches, and how many lines stand in their place afterwards.
+-- The lines of a text that an edit touches, and the number of lines that replace them.
 use Rattle.std.specs.Prelude.{ℕ, ◌+◌, ◌-◌, ◌==◌, Bool, false, ◌&&◌, nat_lt, if◌then◌else◌, List, length, slice_index}
 use Rattle.text_lengths.specs.declared.Span.{Span}
 use Rattle.text_lengths.specs.declared.Dirty.{Dirty}
@@ -6,16 +6,16 @@ use Rattle.text_rules.specs.Lines.{lines_of, carriage_return}
 use Rattle.text_rules.specs.Positions.{position_of}
 use Rattle.text_rules.specs.Edits.{edited}
 
--- a CR stands right before the place
+-- a CR is right before the offset
 abbrev pub is_after_return : List ℕ → ℕ → Bool
 is_after_return x place = nat_lt 0 place && slice_index x (place - 1) == carriage_return
 
--- From where on an edit at the place touches the text: a CR right before it is touched, since it makes one break with an
--- LF that comes there.
+-- The first offset that an edit at `place` touches. A CR right before the edit is touched, since it forms one break
+-- with an LF inserted after it.
 abbrev pub touched_from : List ℕ → ℕ → ℕ
 touched_from x place = if is_after_return x place then place - 1 else place
 
--- the text in which these units have taken the place of the span
+-- the text after the units `text` replace the span
 abbrev pub replaced : List ℕ → Span → List ℕ → List ℕ
 replaced x span text = edited x (record { span = span; text = text; force = false })
 
@@ -23,11 +23,11 @@ replaced x span text = edited x (record { span = span; text = text; force = fals
 abbrev pub first_dirty : List ℕ → Span → ℕ
 first_dirty x span = (position_of x (touched_from x span.start)).line
 
--- how many lines there are from that one to the line of the span's end
+-- the number of lines from that line to the line of the span's end
 abbrev pub old_dirty : List ℕ → Span → ℕ
 old_dirty x span = (position_of x span.end).line + 1 - first_dirty x span
 
--- how many lines the new text has beside those that were not touched
+-- the number of lines of the new text that replace the touched lines
 abbrev pub new_dirty : List ℕ → Span → List ℕ → ℕ
 new_dirty x span text = length (lines_of (replaced x span text)) - (length (lines_of x) - old_dirty x span)
 

@@ -5,10 +5,10 @@ use Rattle.unit_text.specs.declared.kind.Kind.{Kind}
 use Rattle.unit_text.specs.Kinds.{is_place_in}
 use Rattle.text_rules.specs.declared.Op.{Op}
 
--- in a text of the kind: the span's start is above its end, or one of the two is no place of the text
+-- the span is invalid in a text of the kind: its start is greater than its end, or one of the two is no valid offset
 abbrev pub is_bad_span : Kind → List ℕ → Span → Bool
 is_bad_span kind x span = nat_lt span.end span.start || not (is_place_in kind x span.start && is_place_in kind x span.end)
 
--- the text in which the op's text has taken the place of its span
+-- the text after the op's text replaces its span
 abbrev pub edited : List ℕ → Op → List ℕ
 edited x op = take op.span.start x ++ op.text ++ drop op.span.end x

@@ -37,7 +37,7 @@ length_of_no_text = refl
 a_break_begins_a_line : text_length (codes "ab\n") ≡ length_of 1 0
 a_break_begins_a_line = refl
 
--- lengths add up, save where a CR LF is cut in two
+-- lengths add up, unless a CR LF is cut in two
 lengths_of_two_texts : length_plus (text_length (codes "a\nb")) (text_length (codes "cd")) ≡ text_length (codes "a\nbcd")
 lengths_of_two_texts = refl
 
@@ -56,14 +56,14 @@ inside_an_emoji = refl
 inside_an_ending : is_bad_span Crlf (codes "a\r\nb") (record { start = 2; end = 4 }) ≡ true
 inside_an_ending = refl
 
--- a place inside CR LF has a position, which no position names back
+-- an offset inside a CR LF has a position, but the position is invalid
 inside_a_break : position_of (codes "a\r\nb") 2 ≡ record { line = 1; column = 3 }
 inside_a_break = refl
 
 no_position_inside_a_break : is_position (codes "a\r\nb") (record { line = 1; column = 3 }) ≡ false
 no_position_inside_a_break = refl
 
--- a pair of surrogates has a position before it and one behind it
+-- the positions before and after a pair of surrogates are valid, the one inside it is not
 positions_beside_a_pair : map (λ column. is_position (0xD83D ∷ 0xDE00 ∷ []) (record { line = 1; column = column })) (1 ∷ 2 ∷ 3 ∷ [])
     ≡ true ∷ false ∷ true ∷ []
 positions_beside_a_pair = refl
@@ -83,17 +83,18 @@ touched units start end text = dirty_lines units (record { start = start; end = 
 abbrev dirty : ℕ → ℕ → ℕ → Dirty
 dirty first old new = record { first = first; old = old; new = new }
 
--- in a line, over a break, and with two new breaks
+-- an edit within a line, an edit across a break, and an edit that adds two breaks
 edits_of_lines : touched (codes "ab\ncd\nef") 4 5 (codes "X") ∷ touched (codes "ab\ncd\nef") 1 4 []
     ∷ touched (codes "ab\ncd") 4 4 (codes "x\r\ny\r") ∷ []
     ≡ dirty 2 1 1 ∷ dirty 1 2 1 ∷ dirty 2 1 3 ∷ []
 edits_of_lines = refl
 
--- an LF joins the CR before it, and so does one that is met: the line that this CR ends is touched; and a pair is cut
+-- an inserted LF joins the CR before it, and so does an LF that a deletion puts behind the CR: the line that this CR
+-- ends is touched; the last edit cuts a CR LF in two
 edits_at_pairs : touched (codes "a\rb") 2 2 (codes "\n") ∷ touched (codes "a\rx\nb") 2 3 [] ∷ touched (codes "a\r\nb") 2 2 (codes "x") ∷ []
     ≡ dirty 1 2 2 ∷ dirty 1 2 1 ∷ dirty 1 1 2 ∷ []
 edits_at_pairs = refl
 
--- nothing joins an LF
+-- nothing forms one break with an LF before it
 after_a_line_feed : touched (codes "a\nb") 2 2 (codes "\r") ≡ dirty 2 1 2
 after_a_line_feed = refl

@@ -1,11 +1,11 @@
--- The lines of a text whose line endings become those of a kind: each keeps its content.
+-- The lines of a text after its line endings are replaced by those of a kind: each line keeps its content.
 use Rattle.std.specs.Prelude.{ℕ, List, [], ◌∷◌, map}
 use Rattle.unit_text.specs.Endings.{line_feed, carriage_return}
 use Rattle.unit_text.specs.declared.kind.Kind.{Kind}
 use Rattle.unit_text.specs.declared.kind.Kind.TheVariants.{Mixed, Lf, Crlf}
 use Rattle.text_rules.specs.Lines.{Line}
 
--- what a line ends with once each ending is this one; the last line ends with nothing
+-- the break of a line after each break is replaced by `ending`; the last line has no break
 abbrev pub ended : List ℕ → List ℕ → List ℕ
 ended ending [] = []
 ended ending (u ∷ break) = ending

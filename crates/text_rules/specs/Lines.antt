@@ -6,21 +6,21 @@ pub use Rattle.unit_text.specs.Endings.{line_feed, carriage_return, begins_with}
 
 pub record Line : Type 0 where
   pub content : List ℕ
-  -- CR LF, CR or LF, and nothing in the last line
+  -- CR LF, CR or LF; empty in the last line
   pub break : List ℕ
 
--- the unit joins the content of the first line
+-- puts the unit in front of the content of the first line
 abbrev pub in_first_line : ℕ → List Line → List Line
 in_first_line u [] = []
 in_first_line u (line ∷ lines) = record { content = u ∷ line.content; break = line.break } ∷ lines
 
--- the unit joins the break of the first line
+-- puts the unit in front of the break of the first line
 abbrev pub in_first_break : ℕ → List Line → List Line
 in_first_break u [] = []
 in_first_break u (line ∷ lines) = record { content = line.content; break = u ∷ line.break } ∷ lines
 
--- The lines of a unit and the units after it, which have these lines. A CR before an LF is a part of the break that
--- the LF makes, any other CR or LF ends a line, and all else is content.
+-- The lines of the unit `u` and the units `after`, whose lines are `lines`. A CR before an LF joins the break of the
+-- LF, any other CR or LF ends a line, and any other unit is content.
 abbrev pub line_step : ℕ → List ℕ → List Line → List Line
 line_step u after lines =
     if u == carriage_return && begins_with line_feed after then in_first_break u lines else
@@ -32,25 +32,25 @@ abbrev pub lines_of : List ℕ → List Line
 lines_of [] = record { content = []; break = [] } ∷ []
 lines_of (u ∷ after) = line_step u after (lines_of after)
 
--- how many units a line has, its break included
+-- the number of units of a line, its break included
 abbrev pub line_length : Line → ℕ
 line_length line = length line.content + length line.break
 
--- the line of this number, counted from 1
+-- the line with number n, counted from 1
 abbrev pub line_at : List ℕ → ℕ → Option Line
 line_at x n = if n == 0 then None else slice_get (lines_of x) (n - 1)
 
--- how many units stand before the line of this number
+-- the start offset of the line with number n: the number of units before it
 abbrev pub line_start : List ℕ → ℕ → ℕ
 line_start x n = sum_by line_length (take (n - 1) (lines_of x))
 
--- what stands in the last line
+-- the content of the last line
 abbrev pub last_content : List Line → List ℕ
 last_content [] = []
 last_content (line ∷ []) = line.content
 last_content (line ∷ next ∷ lines) = last_content (next ∷ lines)
 
--- how long these lines are together: the breaks between them, and the units after the last break
+-- the length of the lines together: the number of breaks between them, and the number of units after the last break
 abbrev pub length_of_lines : List Line → Length
 length_of_lines lines = length_of (length lines - 1) (length (last_content lines))
 

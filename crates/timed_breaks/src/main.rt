@@ -1,5 +1,5 @@
-//! Looks for the breaks of 100 MB of text in the way that its word names, so that the ways can be timed beside each other;
-//! or compares the ways on small texts.
+//! Finds the line breaks of 100 MB of text with the method named on the command line, so that the methods can be timed;
+//! `compare` instead compares the methods on small texts.
 #![tactic(auto)]
 
 use line_starts::{count_breaks, find_starts};
@@ -7,10 +7,10 @@ use plain_breaks::{Kind, TEXTS, agree_on, agree_on_one};
 use std::alloc::{AllocError, Global};
 use std::{env, io};
 
-/// How many lines the text has.
+/// The number of lines of the text.
 const LINES: usize = 1_666_667;
 
-/// How many units a line has, with its LF, of two bytes each.
+/// The number of units of a line, its LF included. A unit has two bytes.
 const LINE: usize = 30;
 
 const LINE_FEED: u16 = 10;
@@ -27,13 +27,14 @@ fn text(alloc: Global) -> Result<Vec<u16>, AllocError> {
     Ok(units)
 }
 
-/// On texts of each length up to this one the lanes are compared with the plain loops, with a break at each place.
+/// The greatest length of the texts on which the SIMD version and the plain loops are compared, with a break at each
+/// index.
 const LONGEST: usize = 200;
 
-/// So many units have texts that are counted at several places in turn.
+/// The lengths in units of the long texts, whose breaks are counted at several places in turn.
 const LONG: [usize; 3] = [65_536, 65_567, 70_001];
 
-/// On how many long texts, with breaks of all kinds, both ways agree.
+/// Returns the number of long texts, with breaks of all kinds, on which both ways agree.
 fn agreeing_on_long(alloc: Global) -> Result<u64, AllocError> {
     let mut texts: u64 = 0;
     for len in LONG {
@@ -44,7 +45,8 @@ fn agreeing_on_long(alloc: Global) -> Result<u64, AllocError> {
     Ok(texts)
 }
 
-/// On how many texts both ways agree.
+/// Returns the number of texts on which both ways agree. Texts of the same kind and length are counted only if both
+/// ways agree on all of them.
 fn agreeing(alloc: Global) -> Result<u64, AllocError> {
     let mut texts = agreeing_on_long(alloc)?;
     for kind in TEXTS {
@@ -57,11 +59,13 @@ fn agreeing(alloc: Global) -> Result<u64, AllocError> {
     Ok(texts)
 }
 
-/// How many times a text is gone over, so that making it counts for little: each time from one unit further on, so that no answer serves twice.
+/// The number of passes over the text, so that the time to build it matters little. Each pass starts one unit further
+/// on, so that no result can be reused.
 const PASSES: usize = 10;
 
-/// What is found in the way of this name: breaks or line starts of all passes; for any other name the units alone. The room for the
-/// starts is there, and its pages were touched, so that no way is timed by how memory comes.
+/// Returns the number of breaks or line starts that method `way` finds in all passes; for any other name, the number of
+/// units in all passes. The memory for the starts is allocated and its pages are touched in advance, so that allocation
+/// is not timed.
 fn found(alloc: Global, way: &str, units: &[u16]) -> Result<u64, AllocError> {
     let mut starts = Vec::new(alloc);
     starts.resize(LINES, 0)?;

@@ -1,4 +1,4 @@
--- The last of the steps that were made with document n, and other steps in the place of all.
+-- The last steps shared with document n, and the replacement of all steps.
 use Rattle.std.proofs.Common.{◌≡◌, ℕ, suc, ◌+◌, ◌-◌, ◌&&◌, nat_lt, arith, Bool, false, if◌then◌else◌, List, [], ◌∷◌, ◌++◌, length, map, reverse, filter, None, refl, sym, ap, ap₂, ◌∙◌, ⊎_elim}
 use Rattle.std.proofs.lemmas.Bool.{and_right, cases_lt, lt-ltb, le-ltb}
 use Rattle.std.proofs.lemmas.List.{length-append, length-reverse, reverse-append, reverse-reverse, map-append, take_at, drop_at}
@@ -34,7 +34,7 @@ module _ {C : Type 0} where
         (ap (λ b. passes (is_member n) step.tag && b) (le-ltb (tagged_count n steps) 0 (omega arith)) ∙ and_right (passes (is_member n) step.tag) false refl)
         (untagged_last_none steps)
 
-    -- those behind are the first that lose their tags
+    -- later steps lose their tags first
     pub untagged_last-append : (c : ℕ) (xs ys : List (Step C))
         → untagged_last n c (xs ++ ys) ≡ untagged_last n (c - tagged_count n ys) xs ++ untagged_last n c ys
     untagged_last-append c [] ys = refl

@@ -21,11 +21,11 @@ an_undo_closes_its_step = refl
 a_change_empties_the_redo_list : (pushed (undone (pushed (empty_stack {C = ℕ}) 7 1 2)) 8 1 3).redo ≡ []
 a_change_empties_the_redo_list = refl
 
--- documents 0 and 2 were changed at once
+-- the tag of a change of documents 0 and 2 at once
 abbrev both : Tag
 both = record { least = 0; version = 2; members = 5 }
 
--- a step alone, one with others, which is undone
+-- a step without a tag, and a step with a tag, which is then undone
 abbrev two_steps : Stack ℕ
 two_steps = undone (tagged (pushed (stopped (pushed empty_stack 7 1 2)) 8 2 3) both)
 
@@ -44,7 +44,7 @@ the_tag_of_other_documents_stays = refl
 a_change_empties_the_list_that_had_it : holds (pushed two_steps 9 2 4) both ≡ false
 a_change_empties_the_list_that_had_it = refl
 
--- documents 0 and 1 made two steps at once, and 0 and 2 then a third one
+-- documents 0 and 1 made two steps at once, and then documents 0 and 2 made a third one
 abbrev shared : ℕ → ℕ → Step ℕ
 shared version members =
     record { changes = []; alt_before = 0; alt_after = 0; tag = Some (record { least = 0; version = version; members = members }) }

@@ -1,22 +1,22 @@
--- The undo and redo lists of an editor, as VS Code's edit stack keeps them: changes that were made without a stop
--- between them are one element, and a new change empties the redo list.
+-- The undo and redo lists of an editor, as in VS Code's edit stack: changes without a stop between them form one step,
+-- and a new change empties the redo list.
 use Rattle.std.specs.Prelude.{ℕ, Bool, true, false, List, [], ◌∷◌, ◌++◌, Option, None}
 use Rattle.undo_rules.specs.declared.Tag.{Tag}
 
 -- one step of undo, over any type of change
 pub record Step (C : Type 0) : Type 0 where
   pub changes : List C
-  -- what the alternative version was before its first change, and after its last
+  -- the alternative version before its first change, and after its last
   pub alt_before : ℕ
   pub alt_after : ℕ
-  -- where steps of other documents were made at once with it
+  -- the tag, if steps of other documents were made at once with this step
   pub tag : Option Tag
 
--- the lists have the element that comes next at their front
+-- the first step of each list is the next one to undo or to redo
 pub record Stack (C : Type 0) : Type 0 where
   pub undo : List (Step C)
   pub redo : List (Step C)
-  -- whether the next change joins the front element of the undo list
+  -- whether the next change joins the first step of the undo list
   pub is_open : Bool
 
 module _ {C : Type 0} where
@@ -27,7 +27,7 @@ module _ {C : Type 0} where
   new_step change alt_before alt_after =
       record { changes = change ∷ []; alt_before = alt_before; alt_after = alt_after; tag = None }
 
-  -- an open element takes the change at its end; else the change begins an element
+  -- appends the change to the first step if the list is open and not empty; else the change begins a new step
   abbrev pub joined : Bool → List (Step C) → C → ℕ → ℕ → List (Step C)
   joined true (step ∷ steps) change alt_before alt_after =
       record step { changes = step.changes ++ change ∷ []; alt_after = alt_after } ∷ steps
@@ -41,7 +41,7 @@ module _ {C : Type 0} where
   abbrev pub stopped : Stack C → Stack C
   stopped s = record s { is_open = false }
 
-  -- the front element of a list moves to the front of the other
+  -- moves the first undo step, if there is one, to the front of the redo list
   abbrev pub undone_lists : List (Step C) → List (Step C) → Stack C
   undone_lists [] redo = record { undo = []; redo = redo; is_open = false }
   undone_lists (step ∷ steps) redo = record { undo = steps; redo = step ∷ redo; is_open = false }

@@ -1,4 +1,4 @@
--- The first character that units spell.
+-- The first character of a list of units.
 use Rattle.std.proofs.Common.{◌≡◌, ℕ, true, false, ◌&&◌, List, [], ◌∷◌, refl, unwrap_or}
 use Rattle.std.specs.Char.Utf16.{utf16_chars, utf16_lossy_chars, is_high_surrogate, is_low_surrogate, surrogate_pair_char, lone_unit_char}
 use Rattle.std.proofs.lemmas.Str.{utf16_chars-nil}

@@ -1,4 +1,4 @@
--- Texts of a kind stay texts of it, cut at places of the kind and joined.
+-- Texts of a kind that are cut at valid offsets, or joined, are again texts of the kind.
 use Rattle.std.proofs.Common.{◌≡◌, ◌↔◌, ℕ, zero, suc, ◌+◌, ◌-◌, ◌<◌, ◌≤◌, ◌==◌, Bool, cond, true, false, ◌&&◌, ◌||◌, List, [], ◌∷◌, ◌++◌, length, take, drop, slice_index, not, refl, ap, sym, ◌∙◌, inl, inr, arith}
 use Rattle.std.proofs.lemmas.Bool.{eqb-true, and_parts, and_from, or_parts, lt-ltb, not-true, cases_Bool, cases_lt}
 use Rattle.std.proofs.lemmas.List.{length-append, take-append-drop, get_or_past}
@@ -14,7 +14,7 @@ use Rattle.unit_text.proofs.WithEndings.{with_endings-append, has_no_return, is_
 abbrev one_if : Bool → ℕ
 one_if b = cond b 1 0
 
--- with CR LF in the place of each ending a text is no shorter, and longer where an LF begins it or a CR ends it
+-- with each ending replaced by CR LF a text is no shorter; it is longer if it begins with an LF or ends with a CR
 longer_step : (u : ℕ) (returns feeds joins ends : Bool) (n : ℕ) (rest : List ℕ) → (feeds ≡ true → returns ≡ false)
     → n + one_if joins + one_if ends ≤ length rest
     → suc n + one_if feeds + one_if ends ≤ length (step pairs u (returns && joins) (returns || feeds) rest)
@@ -66,7 +66,7 @@ joined_crlf x y e f =
     let apart : joins_pair x y ≡ false = rw (crlf_ends x e) refl in
     with_endings-append pairs x y apart ∙ rw (e, f) refl
 
--- of a whole that stays, both parts stay
+-- if a text is of kind Crlf, so are its two parts, unless the cut is inside a CR LF
 parts_crlf : (x y : List ℕ) → joins_pair x y ≡ false → IsOfKind Crlf (x ++ y) → IsOfKind Crlf x × IsOfKind Crlf y
 parts_crlf x y apart whole =
     let same : with_endings pairs x ++ with_endings pairs y ≡ x ++ y = sym (with_endings-append pairs x y apart) ∙ whole in
@@ -80,7 +80,7 @@ parts_crlf x y apart whole =
           ∙ ap (drop (length x)) same ∙ drop-append_seam x y,
     )
 
--- a cut at a place of the kind leaves no pair in two
+-- a cut at a valid offset does not split a CR LF
 cut_apart : (x : List ℕ) (place : ℕ) → cuts_ending x place ≡ false → joins_pair (take place x) (drop place x) ≡ false
 cut_apart x zero e = refl
 cut_apart [] (suc n) e = refl
@@ -102,7 +102,7 @@ normalized_crlf (u ∷ after) =
     normalized_crlf_step u (u == carriage_return) (u == line_feed) (begins_with line_feed after) (with_endings pairs after) refl refl
     (normalized_crlf after)
 
--- what is normalized is of the kind
+-- a normalized text is of the kind
 pub normalized-of_kind : (kind : Kind) (x : List ℕ) → IsOfKind kind (normalized kind x)
 normalized-of_kind Mixed x = refl
 normalized-of_kind Lf x = is_of_kind_lf _ (normalized-lf x)
@@ -124,7 +124,7 @@ crlf_parts_at : (x : List ℕ) (place : ℕ) → IsOfKind Crlf x → is_place_in
     → IsOfKind Crlf (take place x) × IsOfKind Crlf (drop place x)
 crlf_parts_at x place e there = uncut_parts x place e (uncut x place there)
 
--- before a place of the kind, and behind it
+-- the parts before and after a valid offset are of the kind
 pub of_kind-take : (kind : Kind) (x : List ℕ) (place : ℕ) → IsOfKind kind x → is_place_in kind x place ≡ true → IsOfKind kind (take place x)
 of_kind-take Mixed x place e there = refl
 of_kind-take Lf x place e there = is_of_kind_lf _ (All-take NoReturn place x (has_no_return x e))
@@ -135,11 +135,11 @@ of_kind-drop Mixed x place e there = refl
 of_kind-drop Lf x place e there = is_of_kind_lf _ (All-drop NoReturn place x (has_no_return x e))
 of_kind-drop Crlf x place e there = (crlf_parts_at x place e there).1
 
--- a text is of kind LF where no CR stands in it, and only there
+-- a text is of kind Lf exactly if it contains no CR
 pub has_no_return_iff : (x : List ℕ) → HasNoReturn x ↔ IsOfKind Lf x
 has_no_return_iff x = (is_of_kind_lf x, has_no_return x)
 
--- a place of a kind is a place
+-- an offset that is valid for a kind is valid
 pub is_place-of_kind : (kind : Kind) (x : List ℕ) (place : ℕ) → is_place_in kind x place ≡ true → is_place x place ≡ true
 is_place-of_kind Mixed x place there = there
 is_place-of_kind Lf x place there = there
@@ -160,7 +160,7 @@ first_of_rest unit [] place h = absurd (omega arith)
 first_of_rest unit (u ∷ x) zero h = refl
 first_of_rest unit (u ∷ x) (suc place) h = first_of_rest unit x place (omega arith)
 
--- in a text of kind CR LF each LF stands behind a CR
+-- in a text of kind Crlf each LF follows a CR
 pub cuts_ending-at_feed : (x : List ℕ) (place : ℕ) → IsOfKind Crlf x → (slice_index x place == line_feed) ≡ true → cuts_ending x place ≡ true
 cuts_ending-at_feed x place e feed =
     elim (cases_Bool (cuts_ending x place)) [

@@ -1,4 +1,4 @@
--- Texts whose surrogates all stand in pairs, cut and joined.
+-- Texts whose surrogates are all paired, when they are cut and joined.
 use Rattle.std.proofs.Common.{◌≡◌, ℕ, suc, zero, ◌-◌, ◌≤◌, ◌<◌, Bool, true, false, ◌&&◌, ◌||◌, not, List, [], ◌∷◌, ◌++◌, length, get_or, take, drop, sym, refl, ◌∙◌, arith, is_some, cond, nat_le, nat_lt, Option, Some, None}
 use Rattle.std.proofs.lemmas.Bool.Decides.{nat_tests}
 use Rattle.std.proofs.lemmas.Bool.{lt-ltb, leb-true, and_parts, or_parts, or_from, not-true}
@@ -18,7 +18,7 @@ has_unpaired-lone : (u v : ℕ) (us : List ℕ) → pair u v ≡ false
 unfolding utf16_chars
 has_unpaired-lone u v us p = rw p
 
--- a list that ends with a high surrogate, before one that begins with a low one
+-- the first list ends with a high surrogate and the second begins with a low one
 abbrev seam : List ℕ → List ℕ → Bool
 seam [] b = false
 seam (u ∷ []) b = pair u (get_or b 0 0)
@@ -66,7 +66,7 @@ IsPaired-after_pair u v a b false p shorter next whole =
     let split = or_parts _ _ (sym (has_unpaired-lone u v a p) ∙ whole) in
     has_unpaired-lone u v (a ++ b) p ∙ or_from _ _ split.0 (next split.1)
 
--- a unit that is paired alone is no surrogate
+-- a text of one unit without unpaired surrogates contains no surrogate
 is_some_lone : (u : ℕ) → IsPaired (u ∷ []) → not (is_some (lone_unit_char u)) ≡ false
 unfolding utf16_chars
 is_some_lone u e = (or_parts _ _ e).0
@@ -106,7 +106,7 @@ cuts_pair-seam x (suc n) within =
     let before : suc n - 1 ≡ n = omega arith in
     rw (above, before) (seam_at x n within)
 
--- a text that is cut at a place
+-- both parts of a text that is cut at a valid offset are paired
 pub IsPaired-cut : (x : List ℕ) (n : ℕ) → is_place x n ≡ true → IsPaired x → IsPaired (take n x) × IsPaired (drop n x)
 IsPaired-cut x n place whole =
     let facts = and_parts _ _ place in

@@ -1,4 +1,4 @@
--- Texts of one line ending, joined and cut.
+-- Texts with line endings of one kind, when they are joined and cut.
 use Rattle.std.proofs.Common.{◌≡◌, ℕ, suc, ◌≤◌, ◌==◌, Bool, true, false, ◌&&◌, ◌||◌, if◌then◌else◌, List, [], ◌∷◌, ◌++◌, length, refl, ap, sym, ◌∙◌, arith}
 use Rattle.std.proofs.lemmas.Bool.{eqb-true}
 use Rattle.std.proofs.lemmas.List.{append_assoc, append-nil}
@@ -21,7 +21,7 @@ step-last ending u true feeds y = ap (λ s. s ++ y) (sym (append-nil ending))
 step-last ending u false true y = ap (λ s. s ++ y) (sym (append-nil ending))
 step-last ending u false false y = refl
 
--- the endings of two texts are replaced in each by itself, where no CR LF lies across
+-- endings can be replaced in two texts separately, unless a CR LF lies across the border
 pub with_endings-append : (ending x y : List ℕ) → joins_pair x y ≡ false
     → with_endings ending (x ++ y) ≡ with_endings ending x ++ with_endings ending y
 with_endings-append ending [] y apart = refl
@@ -39,7 +39,7 @@ feeds = line_feed ∷ []
 abbrev pub pairs : List ℕ
 pairs = carriage_return ∷ line_feed ∷ []
 
--- how long a text is with other endings
+-- the length of a text after its endings are replaced
 shorter_step : (u : ℕ) (joins ends : Bool) (n : ℕ) (rest : List ℕ) → length rest ≤ n → length (step feeds u joins ends rest) ≤ suc n
 shorter_step u true ends n rest h = omega arith
 shorter_step u false true n rest h = omega arith
@@ -51,7 +51,7 @@ with_feeds-shorter (u ∷ after) =
     shorter_step u (u == carriage_return && begins_with line_feed after) (u == carriage_return || u == line_feed)
     (length after) (with_endings feeds after) (with_feeds-shorter after)
 
--- the first unit of a text that stays is no CR, and what follows it stays
+-- if the text is unchanged by the replacement, its first unit is no CR, and the units after it are unchanged
 lf_parts : (u : ℕ) (returns joined ends : Bool) (rest after : List ℕ) → (u == carriage_return) ≡ returns → length rest ≤ length after
     → step feeds u (returns && joined) (returns || ends) rest ≡ u ∷ after → (returns ≡ false) × (rest ≡ after)
 lf_parts u true true ends rest after r h e =
@@ -68,7 +68,7 @@ lf_parts u false joined false rest after r h e = (refl, cc)
 abbrev pub NoReturn : ℕ → Type 0
 NoReturn u = (u == carriage_return) ≡ false
 
--- a text of kind LF holds no CR
+-- a text of kind Lf contains no CR
 pub has_no_return : (x : List ℕ) → IsOfKind Lf x → HasNoReturn x
 has_no_return [] e = All-nil NoReturn
 has_no_return (u ∷ after) e =
@@ -76,7 +76,7 @@ has_no_return (u ∷ after) e =
     (with_feeds-shorter after) e in
     All-cons NoReturn u after parts.0 (has_no_return after parts.1)
 
--- and a text that holds none is one
+-- a text without a CR is of kind Lf
 lf_step : (u : ℕ) (returns joined ends : Bool) (rest after : List ℕ) → returns ≡ false → (u == line_feed) ≡ ends → rest ≡ after
     → step feeds u (returns && joined) (returns || ends) rest ≡ u ∷ after
 lf_step u true joined ends rest after none r e = cc
@@ -98,7 +98,7 @@ no_return_step u true false ends rest r h = All-cons NoReturn line_feed rest ref
 no_return_step u false joined true rest r h = All-cons NoReturn line_feed rest refl h
 no_return_step u false joined false rest r h = All-cons NoReturn u rest r h
 
--- and what is normalized is one
+-- a text normalized to Lf contains no CR
 pub normalized-lf : (x : List ℕ) → HasNoReturn (with_endings feeds x)
 normalized-lf [] = All-nil NoReturn
 normalized-lf (u ∷ after) =

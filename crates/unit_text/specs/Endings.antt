@@ -1,4 +1,4 @@
--- What ends a line: LF, CR, or the two as a pair, as in the text buffer of VS Code.
+-- Line endings: LF, CR, or CR LF as one, as in the text buffer of VS Code.
 use Rattle.std.specs.Prelude.{ℕ, ◌==◌, Bool, false, ◌&&◌, List, [], ◌∷◌}
 use Rattle.unit_text.specs.declared.TheConstants.{LINE_FEED, CARRIAGE_RETURN}
 
@@ -17,6 +17,6 @@ ends_with unit [] = false
 ends_with unit (u ∷ []) = u == unit
 ends_with unit (u ∷ v ∷ x) = ends_with unit (v ∷ x)
 
--- a CR LF lies across the border of two texts
+-- the first text ends with a CR and the second begins with an LF
 abbrev pub joins_pair : List ℕ → List ℕ → Bool
 joins_pair x y = ends_with carriage_return x && begins_with line_feed y

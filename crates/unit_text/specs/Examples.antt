@@ -25,7 +25,7 @@ control_characters_are_escaped : quoted (0x61 ∷ 0x22 ∷ 0x01 ∷ 0x0A ∷ [])
 unfolding utf16_chars encode
 control_characters_are_escaped = refl
 
--- a form feed and the last control character, in lower case
+-- a form feed and the last control character, in lower-case hexadecimal
 escapes_are_hexadecimal : quoted (12 ∷ 31 ∷ []) ≡ codes "\"\\u000c\\u001f\""
 unfolding utf16_chars encode
 escapes_are_hexadecimal = refl
@@ -43,7 +43,7 @@ after_a_pair = refl
 past_the_end : is_place (0xD83D ∷ 0xDE00 ∷ []) 3 ≡ false
 past_the_end = refl
 
--- CR LF is one ending, a lone CR another, and so is an LF before a CR
+-- CR LF is one ending; a CR without an LF after it is one, and so is an LF before a CR
 abbrev mixed_text : List ℕ
 mixed_text = codes "a\r\nb\rc\n\rd"
 
@@ -56,7 +56,7 @@ as_line_feeds = refl
 as_pairs : normalized Crlf mixed_text ≡ codes "a\r\nb\r\nc\r\n\r\nd"
 as_pairs = refl
 
--- between CR and LF: a place of a text of any ending, and none where both are one
+-- between CR and LF: a valid offset in a text of kind Mixed, an invalid one in a text of kind Crlf
 a_place_between : is_place_in Mixed (codes "a\r\nb") 2 ≡ true
 a_place_between = refl
 

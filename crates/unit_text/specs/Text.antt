@@ -6,15 +6,15 @@ use Rattle.std.specs.Char.Escape.{encode_utf16}
 use Rattle.std.specs.List.{flat_map}
 use Rattle.std.specs.Str.{chars, encode_utf8_all}
 
--- the units that the bytes of a text in UTF-8 spell
+-- the UTF-16 units of a text given as UTF-8 bytes
 abbrev pub units_of : List ℕ → List ℕ
 units_of text = flat_map encode_utf16 (chars text)
 
--- the text of the units in UTF-8, with U+FFFD for each surrogate that stands in no pair
+-- the UTF-8 bytes of the units, with U+FFFD for each unpaired surrogate
 abbrev pub utf8_of : List ℕ → List ℕ
 utf8_of units = encode_utf8_all (utf16_lossy_chars units)
 
--- how a character stands in a JSON string: a quotation mark, a backslash and the control characters are escaped
+-- a character in a JSON string: a quotation mark, a backslash and the control characters are escaped
 abbrev pub quoted_char : ℕ → List ℕ
 quoted_char c =
     if c == 34 then codes "\\\"" else

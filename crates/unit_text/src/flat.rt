@@ -1,4 +1,4 @@
-//! A text that is read without a copy.
+//! Texts that are read without a copy.
 
 ghost use Rattle.std.specs.Prelude.{◌≡◌, ◌-◌, ◌<◌, ◌≤◌, ◌++◌, ◌&&◌, List, ℕ, length, drop, take, OnOk, OnErr};
 ghost use Rattle.unit_text.specs.declared.kind.Kind.{Kind};
@@ -9,38 +9,38 @@ use crate::kind::Kind;
 use crate::units::{Units, cuts_pair};
 use std::alloc::AllocError;
 
-/// A text that contracts see as its list of units, and that is read run by run, or copied span by span.
+/// A text that can be read run by run or copied range by range. Contracts see it as its list of units.
 pub trait Flat {
     ghost units: { Self → List ℕ };
 
     ghost kind: { Self → Kind };
 
-    /// How many units the text has.
+    /// Returns the number of units of the text.
     fn len(&self) -> u64
         ensures { result ≡ length (units self.now) };
 
-    /// The kind of its line endings.
+    /// Returns the kind of the text's line endings.
     fn kind(&self) -> Kind
         ensures { result ≡ kind self.now };
 
-    /// Whether the offset is at most the length, and stands neither inside a pair of surrogates nor, in a text of kind CR LF,
-    /// inside such a line ending.
+    /// Returns whether the offset is valid: it is at most the length, it is not inside a pair of surrogates, and in a
+    /// text of kind CR LF it is not inside a CR LF.
     fn is_place(&self, offset: u64) -> bool
         ensures { result ≡ is_place_in (kind self.now) (units self.now) offset };
 
-    /// Whether each of two offsets, the first of which is not above the second, is a place.
+    /// Returns whether both offsets are valid places. `start` is at most `end`.
     fn are_places(&self, start: u64, end: u64) -> bool
         requires { start ≤ end }
         ensures { result ≡ (is_place_in (kind self.now) (units self.now) start
             && is_place_in (kind self.now) (units self.now) end) };
 
-    /// Some of the units that stand from `at` on: at least one of them.
+    /// Returns a non-empty run of the units that start at offset `at`.
     fn run(&self, at: u64) -> &[u16]
         requires { at < length (units self.now) }
         ensures some { 0 < length result.now }
         ensures front { result.now ≡ take (length result.now) (drop at (units self.now)) };
 
-    /// Appends the units from `start` up to `end`. An error leaves `out` as it was.
+    /// Appends the units from offset `start` up to offset `end` to `out`. On an error `out` is unchanged.
     fn copy(&self, start: u64, end: u64, out: &mut Vec<u16>) -> Result<(), AllocError>
         requires ordered { start ≤ end }
         requires within { end ≤ length (units self.now) }

@@ -8,18 +8,18 @@ ghost use Rattle.unit_text.specs.Kinds.{normalized, with_endings, IsOfKind, HasN
 use crate::{CARRIAGE_RETURN, LINE_FEED};
 use std::alloc::AllocError;
 
-/// Which line endings a text may have.
+/// The line endings that a text may have.
 #[derive(Clone, Copy, PartialEq, Eq, Debug)]
 pub enum Kind {
-    /// CR LF, CR and LF, each where it stands.
+    /// Any mix of CR LF, CR and LF.
     Mixed,
-    /// LF alone: no CR stands in the text.
+    /// Only LF: the text contains no CR.
     Lf,
-    /// CR LF alone: no CR and no LF stands outside such a pair.
+    /// Only CR LF: the text contains no CR and no LF outside a CR LF.
     Crlf,
 }
 
-/// Whether all line endings of the units are those of the kind.
+/// Returns whether all line endings of the units are of this kind.
 pub fn is_of_kind(units: &[u16], kind: Kind) -> bool
     ensures { IsTrue result ↔ IsOfKind kind units.now }
 {
@@ -36,7 +36,7 @@ fn has_no_return(units: &[u16]) -> bool
     units.iter().all(|unit| *unit != CARRIAGE_RETURN)
 }
 
-// Whether CR and LF stand only as pairs.
+// Returns whether each CR and each LF is part of a CR LF.
 fn has_pairs_alone(units: &[u16]) -> bool
     ensures { IsTrue result ↔ IsOfKind Crlf units.now }
 {
@@ -54,8 +54,8 @@ fn has_pairs_alone(units: &[u16]) -> bool
     true
 }
 
-/// Appends the units with the line ending of the kind in the place of each CR LF, CR and LF; those of `Mixed` stay. After an
-/// error `out` is as it was.
+/// Appends the units to `out` and replaces each CR LF, CR and LF by the line ending of the kind; `Mixed` keeps all line
+/// endings. On an error `out` is unchanged.
 pub fn norm_of(units: &[u16], kind: Kind, out: &mut Vec<u16>) -> Result<(), AllocError>
     ensures ok { OnOk result (out.new.items ≡ out.old.items ++ normalized kind units.now) }
     ensures err { OnErr result (out.new.items ≡ out.old.items) }
@@ -72,7 +72,7 @@ pub fn norm_of(units: &[u16], kind: Kind, out: &mut Vec<u16>) -> Result<(), Allo
     appended
 }
 
-// After an error some of the text stands behind what was there.
+// On an error a part of the text may have been appended to `out`.
 fn push_with_endings(units: &[u16], ending: &[u16], out: &mut Vec<u16>) -> Result<(), AllocError>
     ensures ok { OnOk result (out.new.items
         ≡ out.old.items ++ with_endings ending.now units.now) }
@@ -93,7 +93,7 @@ fn push_with_endings(units: &[u16], ending: &[u16], out: &mut Vec<u16>) -> Resul
     Ok(())
 }
 
-// Whether the unit is a CR that the LF after it makes one line ending with.
+// Returns whether the unit is a CR and the next unit is an LF, so that both are one line ending.
 fn is_joined(unit: u16, after: &[u16]) -> bool
     ensures { result ≡ (unit == carriage_return && begins_with line_feed after.now) }
 {

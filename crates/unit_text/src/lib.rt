@@ -1,4 +1,4 @@
-//! Texts as UTF-16 code units: owned lists of them, their UTF-8, and their JSON strings.
+//! Texts as UTF-16 code units: owned lists, conversion from and to UTF-8, and JSON strings.
 #![tactic(auto)]
 
 mod flat;

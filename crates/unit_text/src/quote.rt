@@ -1,4 +1,4 @@
-//! Units as a JSON string.
+//! Writes units as a JSON string.
 
 ghost use Rattle.std.specs.Prelude.{◌≡◌, ◌<◌, ◌/◌, ◌%◌, ◌++◌, ◌∷◌, [], OnOk, OnErr, codes, take, vec_len};
 ghost use Rattle.std.specs.Char.{digit_char};
@@ -7,8 +7,8 @@ ghost use Rattle.unit_text.specs.Text.{quoted, quoted_char};
 use crate::utf8::first_char;
 use std::alloc::AllocError;
 
-/// Appends the JSON string of the units, with its quotation marks; a surrogate that stands in no pair is U+FFFD. After
-/// an error `out` is as it was.
+/// Appends the JSON string of the units, with its quotation marks. An unpaired surrogate becomes U+FFFD. On an error
+/// `out` is unchanged.
 pub fn quoted(units: &[u16], out: &mut Vec<u8>) -> Result<(), AllocError>
     ensures ok { OnOk result (out.new.items ≡ out.old.items ++ quoted units.now) }
     ensures err { OnErr result (out.new.items ≡ out.old.items) }
@@ -21,7 +21,7 @@ pub fn quoted(units: &[u16], out: &mut Vec<u8>) -> Result<(), AllocError>
     appended
 }
 
-// After an error some of the string stands behind what was there.
+// On an error a part of the string may have been appended to `out`.
 fn push_quoted(units: &[u16], out: &mut Vec<u8>) -> Result<(), AllocError>
     ensures ok { OnOk result (out.new.items ≡ out.old.items ++ quoted units.now) }
     ensures before { take (vec_len out.old) out.new.items ≡ out.old.items }

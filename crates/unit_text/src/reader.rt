@@ -1,22 +1,22 @@
-//! A text that is read from its front, run by run.
+//! Texts that are read in order, run by run.
 
 ghost use Rattle.std.specs.Prelude.{◌≡◌, ◌<◌, ◌≤◌, ◌^◌, ◌++◌, ℕ, List, [], length, drop, MatchOption, IfSome};
 
 use crate::flat::Flat;
 use std::marker::Model;
 
-/// A text that is read from its front, run by run.
+/// A text that is read in order, run by run.
 pub trait Reader<'t>: Drop {
     ghost left: { Self → List ℕ };
 
-    /// The next units, at least one; None where none is left.
+    /// Returns the next run of units, which is not empty; None at the end of the text.
     fn next_run(&mut self) -> Option<&'t [u16]>
         ensures run { MatchOption result (left self.old ≡ [])
             (λ run. left self.old ≡ run.now ++ left self.new) }
         ensures some { IfSome result (λ run. 0 < length run.now) };
 }
 
-/// A reader that asks the text for the run at each place.
+/// A reader that calls `Flat::run` for each run.
 #[derive(Drop)]
 pub struct ByRuns<'t, F: Flat> {
     text: &'t F,
@@ -35,7 +35,7 @@ impl<'t, F: Flat> Model for ByRuns<'t, F> {
 }
 
 impl<'t, F: Flat> ByRuns<'t, F> {
-    /// A reader of the whole text.
+    /// Returns a reader of the whole text.
     pub fn new(text: &'t F) -> ByRuns<'t, F>
         ensures all { result ≡ F.units text.now }
         ensures small { length result < 2 ^ 64 }

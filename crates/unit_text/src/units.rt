@@ -1,4 +1,4 @@
-//! An owned list of units, and where a pair of surrogates would be cut.
+//! An owned list of units, and the test for an offset inside a pair of surrogates.
 
 ghost use Rattle.std.specs.Prelude.{◌≡◌, ◌&&◌, IfOk, IsOk, OnOk, OnErr, vec_len};
 ghost use Rattle.std.specs.Char.Utf16.{is_high_surrogate, is_low_surrogate};
@@ -9,7 +9,7 @@ use crate::kind::{Kind, is_of_kind, norm_of};
 use std::alloc::{AllocError, Global};
 use std::marker::Model;
 
-/// A text of UTF-16 code units, which contracts see as their list.
+/// An owned text of UTF-16 code units. Contracts see it as its list of units.
 #[derive(Drop, Debug)]
 pub struct Units {
     items: Vec<u16>,
@@ -24,7 +24,7 @@ impl Model for Units {
 }
 
 impl Units {
-    /// A copy of the units.
+    /// Returns a copy of the units. Fails if there is no memory for it.
     pub fn copy_of(alloc: Global, units: &[u16]) -> Result<Units, AllocError>
         ensures { IfOk result (λ copy. copy ≡ units.now) }
     {
@@ -32,14 +32,14 @@ impl Units {
         Ok(Units { items })
     }
 
-    /// The units of the vector, with no copy.
+    /// Returns the units of the vector without a copy.
     pub fn from_vec(items: Vec<u16>) -> Units
         ensures { result ≡ items.items }
     {
         Units { items }
     }
 
-    /// The vector of the units, with no copy.
+    /// Returns the vector of the units without a copy.
     pub fn into_vec(self) -> Vec<u16>
         ensures { result.items ≡ self }
     {
@@ -52,7 +52,8 @@ impl Units {
         self.items.as_slice()
     }
 
-    /// Makes all line endings those of the kind. It takes memory only where there are others; an error leaves the text as it was.
+    /// Replaces all line endings by those of the kind. Allocates only if the text has other line endings. On an error
+    /// the text is unchanged.
     pub fn normalize(&mut self, kind: Kind) -> Result<(), AllocError>
         ensures ok { OnOk result (self.new ≡ normalized kind self.old) }
         ensures sure { IsOfKind kind self.old → IsOk result }
@@ -68,7 +69,7 @@ impl Units {
     }
 }
 
-/// Whether the offset stands between a high surrogate and the low surrogate after it.
+/// Returns whether the offset is between a high surrogate and a low surrogate that follows it.
 pub fn cuts_pair(units: &[u16], offset: u64) -> bool
     ensures { result ≡ cuts_pair units.now offset }
 {
@@ -79,7 +80,7 @@ pub fn cuts_pair(units: &[u16], offset: u64) -> bool
     is_surrogate_pair(units[at - 1], units[at])
 }
 
-/// Whether the two units are a high surrogate and a low one.
+/// Returns whether `high` is a high surrogate and `low` a low surrogate.
 pub(crate) fn is_surrogate_pair(high: u16, low: u16) -> bool
     ensures { result ≡ (is_high_surrogate high && is_low_surrogate low) }
 {

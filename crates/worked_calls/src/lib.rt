@@ -1,4 +1,4 @@
-//! Tests of calls of the document's parts, each by itself, and of the document as a library.
+//! Tests of single parts of the document, and of the document as a library.
 #![tactic(auto)]
 
 #[cfg(test)]

@@ -1,4 +1,4 @@
-//! One table of scripts under faults, cuts and hostile lines, run through the program's call.
+//! One table of scripts with faults, truncated scripts and hostile lines, run through the program's entry point.
 #![tactic(auto)]
 
 #[cfg(test)]

@@ -1,4 +1,4 @@
-//! Generated scripts, which the program answers as a flat document and a plain list of decorations do.
+//! Generated scripts: the program must answer as a flat document and a plain list of decorations do.
 #![tactic(auto)]
 
 #[cfg(test)]

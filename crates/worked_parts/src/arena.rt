@@ -1,4 +1,4 @@
-//! The arena: two values are put in, the first is taken out, and the second is read and written.
+//! Tests of the arena: two values are inserted, the first is removed, and the second is read and overwritten.
 ghost use Rattle.std.specs.Prelude.{◌≡◌, ◌≤◌, Some, IfOk};
 ghost use Rattle.std.specs.FinMap as map;
 ghost use Rattle.raw_arena.specs.Arena.{node};
@@ -7,7 +7,7 @@ use raw_arena::{Arena, NodeId};
 use std::alloc::{AllocError, Global};
 use steps::Steps;
 
-/// Of two values the first is taken out again.
+/// Inserts two values and removes the first.
 fn put_two_take_one(arena: &mut Arena<u64>) -> NodeId
     requires empty { arena.old.live ≡ map.empty }
     requires room { 2 ≤ arena.old.spare }
@@ -20,7 +20,7 @@ fn put_two_take_one(arena: &mut Arena<u64>) -> NodeId
     second
 }
 
-/// The value that is left, before another is written there and after.
+/// Returns the value that is left, before and after it is overwritten.
 fn what_is_left(alloc: Global) -> Result<(u64, u64), AllocError>
     ensures { IfOk result (λ x. (x.0 ≡ 9) × (x.1 ≡ 4)) }
 {

@@ -1,4 +1,4 @@
-//! What no clause says: signals and flushes, and that some sources and sinks never fail.
+//! Properties outside the contracts: signals and flushes, and that some sources and sinks never fail.
 ghost use Rattle.std.specs.Prelude.{◌≡◌, ◌<◌, ◌≤◌, length, IfOk};
 
 use memory_streams::{SureSink, SureSource};
@@ -9,7 +9,7 @@ use std::io::{Error, ErrorKind, Read, Write};
 use std::process::Abort;
 use std::test::Fail;
 
-/// Reads once for each of the pieces, with a buffer of four bytes. `!` stands for a read that fails.
+/// Reads once for each of the pieces, with a buffer of four bytes. `!` marks a read that fails.
 fn expect_reads<S: Source>(rt: &impl Abort, source: &mut S, pieces: &[&str]) {
     let mut buf = [0; 4];
     for piece in pieces {
@@ -20,7 +20,7 @@ fn expect_reads<S: Source>(rt: &impl Abort, source: &mut S, pieces: &[&str]) {
     }
 }
 
-/// Writes the rest of the text once for each of the answers. `None` stands for a write that fails.
+/// Writes the rest of the text once for each of the answers. `None` marks a write that fails.
 fn expect_writes<K: Sink>(rt: &impl Abort, sink: &mut K, text: &str, answers: &[Option<usize>]) {
     let mut rest = text.as_bytes();
     for answer in answers {
@@ -32,7 +32,7 @@ fn expect_writes<K: Sink>(rt: &impl Abort, sink: &mut K, text: &str, answers: &[
     }
 }
 
-/// Takes only what never fails.
+/// Accepts only a source and a sink that never fail.
 fn expect_sure<S: Source, K: Sink>(_source: &S, _sink: &K)
     requires source { (s : S) → (S.state s).faults ≡ 0 }
     requires sink { (s : K) → (K.state s).faults ≡ 0 }
@@ -55,7 +55,7 @@ const PLAYED: &str = r#"{"cmd":"open","text":""}
 {"cmd":"redo"}
 "#;
 
-/// Reads the text and the end after it, each time into this buffer.
+/// Reads the text and then the end, with this buffer each time.
 fn expect_text<S: Source>(rt: &impl Abort, source: &mut S, text: &str, buf: &mut [u8])
     requires { 0 < length buf.old }
 {
@@ -81,7 +81,7 @@ fn a_script_is_played(rt: HostRuntime) {
     assert_eq!(rt; (sink.count(), sink.sum()), (129, 9778));
 }
 
-/// Is interrupted by a signal, then reads and writes two bytes, and fails from then on.
+/// The first call is interrupted by a signal, the second reads or writes at most two bytes, and all later ones fail.
 #[derive(Drop)]
 struct Faulty {
     calls: u8,

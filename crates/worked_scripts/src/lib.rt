@@ -1,4 +1,4 @@
-//! Worked scripts with their replies, run through the program's call, and lines that a session answers.
+//! Worked scripts with their replies, run through the program's entry point, and lines answered by a session.
 #![tactic(auto)]
 
 #[cfg(test)]

@@ -1,4 +1,4 @@
-//! The scan of a line, of which comments and strings hide parts.
+//! The scan of a line in which comments and strings hide brackets.
 
 ghost use Rattle.std.specs.Prelude.{◌≡◌, ◌<◌, ◌++◌, suc, true, length, take, IfSome, IfOk, OnOk, OnErr};
 ghost use Rattle.std.specs.Option.{option_to_list};
@@ -13,8 +13,8 @@ use hiding_marks::Hiding;
 use hiding_rules::{LineState, Within};
 use std::alloc::AllocError;
 
-// What stands at the front of some units: a token, or none; how many units it takes up, the last of
-// which may stand behind the line's end; and in what the place behind it lies.
+// The first part of some units: its token, if it is one; its length in units, which may reach past the end of the line;
+// and what the position after it lies in.
 #[derive(Clone, Copy)]
 struct Part {
     token: Option<Token>,
@@ -23,8 +23,8 @@ struct Part {
 }
 
 impl BracketTable {
-    /// Appends the tokens of a line that begins in this state, of which comments and strings hide
-    /// no part, and returns the state in which it ends. On want of memory `out` is unchanged.
+    /// Appends the tokens of a line that begins in `state` to `out`, without those that comments and strings hide a
+    /// part of. Returns the state in which the line ends. If memory is short, `out` is unchanged.
     pub fn scan_from(
         &self,
         hiding: &Hiding,
@@ -55,7 +55,7 @@ impl BracketTable {
         scanned
     }
 
-    /// The state in which a line ends that begins in this one. Takes no memory.
+    /// Returns the state in which a line that begins in `state` ends. Allocates no memory.
     pub fn end_state(&self, hiding: &Hiding, state: LineState, line: &[u16]) -> LineState
         ensures { result ≡ (hidden_scan (scanner self.now hiding.now) state line.now).state }
     {
@@ -67,7 +67,7 @@ impl BracketTable {
         self.end_behind(hiding, state, line)
     }
 
-    // On want of memory some of the tokens were pushed.
+    // If memory is short, some of the tokens may have been appended.
     fn push_shown(
         &self,
         hiding: &Hiding,
@@ -92,7 +92,7 @@ impl BracketTable {
         Ok(ending(within))
     }
 
-    // The state behind the last part of the line.
+    // Returns the state after the last part of the line.
     fn end_behind(&self, hiding: &Hiding, state: LineState, line: &[u16]) -> LineState
         ensures { result ≡ (hidden_scan (scanner self.now hiding.now) state line.now).state }
     {
@@ -106,13 +106,13 @@ impl BracketTable {
         ending(within)
     }
 
-    // The part at the front of the units, the first of which is at place `at` and lies within this.
+    // Returns the first part of the units. The first unit is at position `at`; `within` says what it lies in.
     fn part(&self, hiding: &Hiding, at: u64, within: Within, units: &[u16]) -> Part
         requires { 0 < length units.now }
         ensures { IsPart (scanner self.now hiding.now) at within units.now result }
     {
         if let Within::Comment = within {
-            // It takes up the rest of its line.
+            // A line comment takes up the rest of its line.
             return Part {
                 token: None,
                 len: units.len(),
@@ -129,7 +129,7 @@ impl BracketTable {
         }
     }
 
-    // A token, or a unit that begins none.
+    // Returns a token, or one unit if no token begins with it.
     fn shown(&self, at: u64, units: &[u16]) -> Part
         requires { 0 < length units.now }
         ensures token { result.token ≡ longest at 0 self.now units.now }

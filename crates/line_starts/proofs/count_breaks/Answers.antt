@@ -6,7 +6,7 @@ use Rattle.line_starts.proofs.Starts.{break_count_is}
 use Rattle.line_starts.proofs.Blocks.{fewer_later}
 use Rattle.line_starts.proofs.count_breaks.Goals as goal
 
--- each part has the breaks that are left at its beginning, and not at the beginning of the next
+-- the breaks of a part are those from its start on, without those from the start of the next part on
 ordered : (x : List ℕ) (quarter at : ℕ) → at ≤ quarter
     → (length (break_ends 0 (drop quarter x)) ≤ length (break_ends 0 (drop at x)))
     × (length (break_ends 0 (drop (quarter * 2) x)) ≤ length (break_ends 0 (drop (quarter + at) x)))

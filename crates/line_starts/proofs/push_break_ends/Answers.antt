@@ -8,7 +8,7 @@ use Rattle.line_starts.proofs.Blocks.{same_count}
 use Rattle.line_starts.proofs.Starts.{break_count_is, break_ends_at_is}
 use Rattle.line_starts.proofs.push_break_ends.Goals as goal
 
--- as much room is wanted from a place on as from the beginning
+-- the places so far and the rest need as much room as all places at once
 room_left : (out old rest x : List ℕ) (start : ℕ) → out ++ rest ≡ old ++ break_ends start x → length out + length rest ≡ length old + length (break_ends 0 x)
 room_left out old rest x start places = omega (arith, length-append out rest, length-append old (break_ends start x), same_count start 0 x, ap length places)
 

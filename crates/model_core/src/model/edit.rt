@@ -13,20 +13,20 @@ ghost use Rattle.model_core.specs.Edited.{HasEdited};
 use crate::errors::error_of;
 use crate::latest::Latest;
 use crate::model::Model;
+use crate::model::compact::compact_room;
 use crate::ready::{Action, Ready};
 use crate::walk::keep;
 use document_rules::ModelError;
 use edit_batches::{Batch, Sorted};
-use model_page::{Change, Way, need_of};
+use model_page::{Change, CompactRoom, Way, need_of};
 use text_lengths::raised;
 use text_rules::Op;
 use unit_text::Flat;
 
 impl Model {
-    /// Carries out the edits at once, which makes the next version. `Range` where a span is invalid; else
-    /// `Overlap` where two spans overlap; else `Limit` where the new text or the version would pass its limit. The edits
-    /// are kept with the texts that they came with; all other memory is taken before the first change. The tree of the
-    /// last parse stays, and each line that an edit touches is marked as new.
+    /// Carries out the edits, which makes the next version. `Range` if a span is invalid; else `Overlap` if two spans overlap; else `Limit` if
+    /// the new text or the version would exceed its limit. The history keeps the edits with the given texts; all other memory is allocated
+    /// before the first change. The tree of the last parse stays, and each touched line is marked as new.
     pub fn edit(&mut self, ops: Vec<Op>) -> Result<(), ModelError>
         ensures document { Changes result self.old.document self.new.document
             (flat_edit self.old.document ops.items) }
@@ -41,7 +41,7 @@ impl Model {
         Ok(())
     }
 
-    /// Prepares to carry out the edits, with the refusals of `edit`, and makes room for it. The document stays as it is.
+    /// Prepares the edits: fails as `edit` does, and reserves all room. The document is unchanged.
     pub fn prepare(&mut self, ops: Vec<Op>) -> Result<Ready, ModelError>
         ensures document { self.new.document ≡ self.old.document }
         ensures parse { KeepsParse self.old self.new }
@@ -55,18 +55,17 @@ impl Model {
             |_| ModelError::Memory,
         )?;
         self.history.reserve().map_err(|_| ModelError::Memory)?;
-        self.page
-            .reserve(need_of(&change, Way::On))
-            .map_err(|_| ModelError::Memory)?;
+        let need = need_of(&change, Way::On);
+        self.page.reserve(need).map_err(|_| ModelError::Memory)?;
         let kind = self.page.text().kind();
-        Ok(Ready::making(next, kind, Action::Make(change)))
+        let room = compact_room(&self.page, &self.shelf, need);
+        Ok(Ready::making(next, kind, Action::Make(change), room))
     }
 
-    /// Carries out what was prepared, which makes the next version, in the room that was made: it needs no memory. The
-    /// version and the kind of line ending are those that it was prepared on; for an edit the rule takes the batch as it stands, and its
-    /// inverse is the one that was prepared; for other line endings the text is the one that was prepared, and the kind another; for
-    /// an undo or redo there is a step. The tree of the last parse stays, and each line that
-    /// is touched is marked as new. The text, or pieces of few units, may be written anew then, where there is memory for it.
+    /// Carries out a prepared change, which makes the next version, in the reserved room: it takes no memory. The document must have the
+    /// version and the kind of line endings for which it was prepared. An edit must fit the text and have the inverse that was prepared; new
+    /// line endings must have the text that was prepared, and another kind; an undo or a redo must have a step. The tree of the last parse
+    /// stays, and each touched line is marked as new. Then the text, or adjacent pieces of few units, may be rewritten.
     pub fn commit(&mut self, ready: Ready)
         requires can { CanCommit self.old ready }
         ensures document { Acts ready.action self.old.document self.new.document }
@@ -74,26 +73,25 @@ impl Model {
             → IsPairedState self.old.document → IsPairedState self.new.document }
         ensures parse { HasActed ready.action self.old self.new }
     {
-        self.act(ready);
-        // Where memory is short the text stays in its buffers.
-        let _written = self.compact();
-        self.rewrite_crowded();
+        let room = self.act(ready);
+        self.rewrite(room);
     }
 
-    // Carries out what was prepared.
-    fn act(&mut self, ready: Ready)
+    // Carries out a prepared change. Returns the room to rewrite the text.
+    fn act(&mut self, ready: Ready) -> Option<CompactRoom>
         requires can { CanCommit self.old ready }
         ensures document { Acts ready.action self.old.document self.new.document }
         ensures parse { HasActed ready.action self.old self.new }
     {
-        let (version, action) = ready.into_parts();
+        let (version, action, room) = ready.into_parts();
         match action {
             Action::Make(change) => self.carry_out(change, version),
             Action::Move(way) => self.follow(way, version),
         }
+        room
     }
 
-    /// `commit` as a step of undo of its own: the open step is closed before it and after it.
+    /// Like `commit`, as a step of undo of its own: the open step is closed before it and after it.
     pub fn commit_alone(&mut self, ready: Ready)
         requires can { CanCommit self.old ready }
         ensures document { ActsAlone ready.action self.old.document self.new.document }
@@ -106,7 +104,7 @@ impl Model {
         self.stop();
     }
 
-    // Makes the change, and with it this version.
+    // Makes the change, which makes this version.
     fn carry_out(&mut self, change: Change, version: u64)
         requires next { version ≡ self.old.document.version + 1 }
         requires last { version ≤ greatest_version }
@@ -116,7 +114,7 @@ impl Model {
         ensures document { Acts (Action.Make change) self.old.document self.new.document }
         ensures parse { HasActed (Action.Make change) self.old self.new }
     {
-        // The texts are within their limit, and that of before is of its kind.
+        // These show the prover that both texts are within the limit, and that the text before is of its kind.
         let _before = self.page.text();
         self.page.follow(&change, Way::On, true);
         let _after = self.page.text();

@@ -10,6 +10,7 @@ ghost use Rattle.model_core.specs.State.{KeepsParse};
 
 use crate::errors::recast_error_of;
 use crate::model::Model;
+use crate::model::compact::compact_room;
 use crate::ready::{Action, Ready};
 use document_rules::ModelError;
 use model_page::{Change, PlacedRecast, Way, need_of};
@@ -50,10 +51,10 @@ impl Model {
         let placed = PlacedRecast::of(self.alloc, recast).map_err(|_| ModelError::Memory)?;
         let change = Change::Endings(placed);
         self.history.reserve().map_err(|_| ModelError::Memory)?;
-        self.page
-            .reserve(need_of(&change, Way::On))
-            .map_err(|_| ModelError::Memory)?;
-        Ok(Some(Ready::making(next, old, Action::Make(change))))
+        let need = need_of(&change, Way::On);
+        self.page.reserve(need).map_err(|_| ModelError::Memory)?;
+        let room = compact_room(&self.page, &self.shelf, need);
+        Ok(Some(Ready::making(next, old, Action::Make(change), room)))
     }
 }
 

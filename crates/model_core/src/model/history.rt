@@ -11,6 +11,7 @@ ghost use Rattle.document_rules.specs.Document.{greatest_version, flat_stop, fla
 
 use crate::latest::Latest;
 use crate::model::Model;
+use crate::model::compact::compact_room;
 use crate::ready::{Action, Ready};
 use crate::walk::{alternative_after, has_next, next_step, pass_step};
 use document_rules::ModelError;
@@ -108,7 +109,8 @@ impl Model {
         let need = need_of_step(step, way).map_err(|_| ModelError::Memory)?;
         self.page.reserve(need).map_err(|_| ModelError::Memory)?;
         let kind = self.page.text().kind();
-        Ok(Some(Ready::making(next, kind, Action::Move(way))))
+        let room = compact_room(&self.page, &self.shelf, need);
+        Ok(Some(Ready::making(next, kind, Action::Move(way), room)))
     }
 
     // Carries out the next undo or redo, which makes this version.

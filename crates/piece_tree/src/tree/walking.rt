@@ -1,4 +1,4 @@
-//! A walk over the pieces, from one of them on.
+//! A walk over the pieces, from a given one on.
 ghost use Rattle.std.specs.Prelude.{◌≡◌, ◌∷◌, ◌+◌, ◌-◌, ◌≤◌, [], length, IfSome, MatchOption};
 ghost use Rattle.std.specs.Option.{ForNone};
 ghost use Rattle.piece_tree.specs.Pieces.{IsAmong};
@@ -12,11 +12,11 @@ use raw_arena::NodeId;
 use std::marker::Model;
 use steps::Steps;
 
-/// A walk over the pieces of a text in their order, from one of them on. Contracts see the pieces that it has not told yet, and how many
-/// more steps than three for each of them it may still take.
+/// A walk over the pieces of a text in their order, from a given one on. Contracts see the pieces that are left, and `due`: the rest of the
+/// walk takes at most `due` steps more than three for each of them.
 #[derive(Drop)]
 pub struct PieceWalk<'t> {
-    /// The run that the walk has come to, if any, its pieces, and the place of the next one.
+    /// The current run, if any, its pieces, and the place of the next piece.
     run: Option<NodeId>,
     pieces: &'t [Piece],
     place: u32,
@@ -33,7 +33,7 @@ impl<'t> Model for PieceWalk<'t> {
     ghost invariant = { λ a. WalksIn a.run a.pieces.now a.place a.behind.left };
 }
 
-/// The run and the place in it that a name tells; the front of no run where there is none.
+/// Returns the run and the place of a name; None and 0 for None.
 fn place_of(id: Option<PieceId>) -> (Option<NodeId>, u32)
     ensures { result ≡ place_of id }
 {
@@ -44,7 +44,7 @@ fn place_of(id: Option<PieceId>) -> (Option<NodeId>, u32)
 }
 
 impl PieceTree {
-    /// A walk over the pieces from the one of this name on, or over none. It visits no node before it is asked for a piece.
+    /// Returns a walk over the pieces from the named one on; over no piece for None. No node is visited before the first call of `next`.
     pub fn walk_from(&self, id: Option<PieceId>) -> PieceWalk<'_>
         requires { IfSome id (IsAmong self.now.entries) }
         ensures left { LeftFrom self.now.entries id result.left }
@@ -61,7 +61,7 @@ impl PieceTree {
 }
 
 impl<'t> PieceWalk<'t> {
-    /// The next piece with its name; None where all were told. Each node that is visited is a step.
+    /// Returns the next piece with its name; None after the last one. Each visited node is a step.
     pub fn next<L>(&mut self, steps: &mut Steps<L>) -> Option<(PieceId, Piece)>
         ensures piece { MatchOption result (self.old.left ≡ [])
             (λ told. self.old.left ≡ record { id = told.0; piece = told.1 } ∷ self.new.left) }

@@ -1,4 +1,4 @@
-//! Items come, go and move.
+//! Insertion, removal, replacement and moving of items.
 ghost use Rattle.std.specs.Prelude.{◌≡◌, ◌+◌, ◌<◌, ◌∷◌};
 ghost use Rattle.rb_rules.specs.Rewriting.{rewritten_all, onward_all};
 ghost use Rattle.rb_rules.specs.Woven.{sum_of, Valued};
@@ -17,7 +17,7 @@ use raw_arena::NodeId;
 use rb_rules::{Rewriting, Weave};
 
 impl<W: Weave> RbTree<W> {
-    /// Puts another item in the place of that one, under its name. Where its sum is the same, no other node is renewed.
+    /// Replaces the item `id`, which keeps its name. If `same` finds the sum of its node unchanged, no other node is written.
     #[tactic(auto, using(crate::proofs::Seeing::setting))]
     pub fn set(&mut self, id: NodeId, item: W::Item)
         requires named { IsItem self.old.items id }
@@ -31,7 +31,7 @@ impl<W: Weave> RbTree<W> {
         set_item::<W>(&mut self.links, id, own);
     }
 
-    /// Puts an item right after that one, or before all others.
+    /// Inserts an item right after `id`, or before all others if `id` is None, and returns its name.
     #[tactic(auto, using(crate::proofs::Seeing::putting))]
     fn put_after(&mut self, id: Option<NodeId>, item: W::Item) -> NodeId
         requires room { 0 < self.old.spare }
@@ -46,7 +46,7 @@ impl<W: Weave> RbTree<W> {
         insert_at::<W>(&mut self.links, at, item)
     }
 
-    /// Puts an item right after that one.
+    /// Inserts an item right after `id` and returns its name.
     pub fn insert_after(&mut self, id: NodeId, item: W::Item) -> NodeId
         requires room { 0 < self.old.spare }
         requires named { IsItem self.old.items id }
@@ -59,7 +59,7 @@ impl<W: Weave> RbTree<W> {
         self.put_after(Some(id), item)
     }
 
-    /// Puts an item before all others.
+    /// Inserts an item before all others and returns its name.
     pub fn insert_first(&mut self, item: W::Item) -> NodeId
         requires room { 0 < self.old.spare }
         requires value { W.is_item item }
@@ -71,7 +71,7 @@ impl<W: Weave> RbTree<W> {
         self.put_after(None, item)
     }
 
-    /// Takes the item of that name out. Its name is free again.
+    /// Removes the item `id`. Its name may be given to another item afterwards.
     #[tactic(auto, using(crate::proofs::Seeing::removing))]
     pub fn remove(&mut self, id: NodeId)
         requires { IsItem self.old.items id }
@@ -82,7 +82,7 @@ impl<W: Weave> RbTree<W> {
         leave::<W>(&mut self.links, id);
     }
 
-    /// Moves each item after that one, or every item where none is named.
+    /// Moves each item after `id`, or every item if `id` is None, by `by`.
     #[tactic(auto, using(crate::proofs::Seeing::moving))]
     pub fn shift_after(&mut self, id: Option<NodeId>, by: W::By)
         requires named { PlaceAfter self.old.items id }
@@ -100,7 +100,7 @@ impl<W: Weave> RbTree<W> {
         self.reach = reach;
     }
 
-    /// Rewrites the items where they stand, in order. Where items are skipped only the topmost node of theirs is read.
+    /// Rewrites the items in place, in order. Of a subtree that is skipped only the root is read.
     #[tactic(auto, using(crate::proofs::Seeing::spare_seen))]
     pub fn rewrite<R: Rewriting<W>>(&mut self, how: &mut R)
         requires values { Valued W.weaving W.is_item W.is_value

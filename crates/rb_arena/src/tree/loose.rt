@@ -1,4 +1,4 @@
-//! Items that are lifted out of the list and keep their names, and land in it again.
+//! Items that are lifted out of the list and keep their names, and their return into it.
 ghost use Rattle.std.specs.Prelude.{◌≡◌};
 ghost use Rattle.rb_arena.specs.RbTree.{IsItem, PlaceAfter, LeavesOut, HasLifted, front_of};
 ghost use Rattle.rb_arena.specs.RbTree.{HasFront, AtFront, SumsLanded, HasLanded};
@@ -12,7 +12,7 @@ use crate::walk::place_after;
 use raw_arena::NodeId;
 use rb_rules::{Data, Weave};
 
-/// Puts an item at an empty place, at the first node of a chain, and tells which is the first now.
+/// Inserts an item at an empty place, in the first node of a chain, and returns the node that is first now.
 #[tactic(auto, using(crate::proofs::Seeing::landing))]
 fn land<W: Weave>(
     tree: &mut Links<Data<W::Item, W::Sum, W::By>>,
@@ -30,7 +30,7 @@ fn land<W: Weave>(
 }
 
 impl<W: Weave> RbTree<W> {
-    /// Takes the item of that name out of the list, to the front of the loose ones, under its name.
+    /// Takes the item `id` out of the list and puts it in front of the loose items. It keeps its name.
     #[tactic(auto, using(crate::proofs::Seeing::lifting))]
     pub fn lift(&mut self, id: NodeId)
         requires { IsItem self.old.items id }
@@ -42,7 +42,7 @@ impl<W: Weave> RbTree<W> {
         self.loose = Some(id);
     }
 
-    /// The front loose item, with its name.
+    /// Returns the front loose item with its name; None if no item is loose.
     #[tactic(auto, using(crate::proofs::Seeing::fronts))]
     pub fn loose(&self) -> Option<(NodeId, W::Item)>
         ensures { result ≡ front_of self.now.loose }
@@ -53,7 +53,8 @@ impl<W: Weave> RbTree<W> {
         Some((id, front.data.item))
     }
 
-    /// Puts an item right after that one, or before all others, under the name of the front loose one, which is not loose any more.
+    /// Inserts an item right after `id`, or before all others if `id` is None, under the name of the front loose item, which is no longer
+    /// loose.
     #[tactic(auto, using(crate::proofs::Seeing::landing_after))]
     pub fn land_after(&mut self, id: Option<NodeId>, item: W::Item)
         requires loose { HasFront self.old.loose }

@@ -10,7 +10,8 @@ use raw_arena::NodeId;
 use rb_rules::{Data, Weave};
 use steps::Steps;
 
-/// The item at which a search ends that goes on so. Each node that is visited counts as a step.
+/// Completes a search after its climb. Returns the item at which it ends, with its name and the sum of the items before it. Each visited
+/// node counts as a step.
 #[tactic(auto, using(crate::proofs::Seeing::going_on))]
 fn go_on<W: Weave, L>(
     tree: &Links<Data<W::Item, W::Sum, W::By>>,
@@ -29,8 +30,9 @@ fn go_on<W: Weave, L>(
 }
 
 impl<W: Weave> RbTree<W> {
-    /// Searches for a key: an item at which the search ends, with its name and the sum of the items before it. The search ends
-    /// where `turn` says stop, or between two items that point at each other. Each node that is visited counts as a step.
+    /// Searches for a key. Returns an item at which the search ends, with its name and the sum of the items before it; None if the list
+    /// is empty. The search ends at an item where `turn` says stop, where it says left and the item before is missing or says right, or
+    /// where it says right and the item after is missing or says left. Each visited node counts as a step.
     #[tactic(auto, using(crate::proofs::Seeing::descending))]
     pub fn descend<L>(&self, key: W::Key, steps: &mut Steps<L>) -> Option<(NodeId, W::Item, W::Sum)>
         ensures found { Found W.weaving W.turn key self.now.items result }
@@ -45,7 +47,7 @@ impl<W: Weave> RbTree<W> {
         go_down::<W, L>(&self.links, top, key, steps)
     }
 
-    /// Searches for a key among the items after that one, with sums that begin after it. Each node that is visited counts as a step.
+    /// Searches for a key among the items after `id`, as `descend` does. Sums begin after `id`. Each visited node counts as a step.
     #[tactic(auto, using(crate::proofs::Seeing::descending_after))]
     pub fn descend_after<L>(
         &self,

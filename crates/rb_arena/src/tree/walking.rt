@@ -1,4 +1,4 @@
-//! A walk over the items, from one of them on.
+//! A walk over the items, from a given item on.
 ghost use Rattle.std.specs.Prelude.{◌≡◌, ◌+◌, ◌-◌, ◌≤◌, ◌^◌, [], length, IfSome, MatchOption};
 ghost use Rattle.std.specs.Option.{ForNone};
 ghost use Rattle.rb_arena.specs.RbTree.{IsItem};
@@ -12,13 +12,14 @@ use rb_rules::{Data, Side, Weave};
 use std::marker::Model;
 use steps::Steps;
 
-/// A walk over the items of a tree in their order, from one of them on.
+/// A walk over the items of a tree in order, from a given item on.
 ///
-/// A contract sees the items that it has not told yet, and how many more steps than three for each of them it may still take.
+/// A contract sees the items that are left, and `due`: the number of steps that the rest of the walk may take beyond three for each item
+/// left.
 #[derive(Drop)]
 pub struct Walk<'t, W: Weave> {
     links: &'t Links<Data<W::Item, W::Sum, W::By>>,
-    /// The node of the next item.
+    /// The node of the next item; None at the end.
     at: Option<NodeId>,
 }
 
@@ -35,7 +36,7 @@ impl<'t, W: Weave> Model for Walk<'t, W> {
 }
 
 impl<W: Weave> RbTree<W> {
-    /// A walk over the items from that one on, or over none. It visits no node before it is asked for an item.
+    /// Starts a walk at the item `id`; it is empty if `id` is None. No node is visited before the first call of `next`.
     #[tactic(auto, using(crate::proofs::Walking::starting))]
     pub fn walk_from(&self, id: Option<NodeId>) -> Walk<'_, W>
         requires { IfSome id (IsItem self.now.items) }
@@ -50,8 +51,8 @@ impl<W: Weave> RbTree<W> {
 }
 
 impl<'t, W: Weave> Walk<'t, W> {
-    /// The next item with its name, as its node keeps it: with the shifts of the nodes above it the item comes of that. None where all
-    /// were told. Each node that is visited counts as a step.
+    /// Returns the next item with its name; None after the last one. The item is relative, as its node keeps it: the shifts of the path
+    /// to the node are not applied. Each visited node counts as a step.
     #[tactic(auto, using(crate::proofs::Walking::stepping))]
     pub fn next<L>(&mut self, steps: &mut Steps<L>) -> Option<(NodeId, W::Item)>
         ensures item { MatchOption result (self.old.left ≡ [])

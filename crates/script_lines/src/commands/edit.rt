@@ -49,7 +49,7 @@ pub(super) fn edit_in(alloc: Global, value: &Value) -> Result<Command, LineFault
     Ok(Command::Edit { ops })
 }
 
-/// The ops that the field has: one or more.
+/// Parses the ops of the field `key`. Fails with `Syntax` if there are none.
 pub(crate) fn some_ops_at(alloc: Global, value: &Value, key: &str) -> Result<LineOps, LineFault>
     ensures { Reads result (some_ops_at key.now (view value.now)) }
 {
@@ -84,7 +84,8 @@ fn op_in(alloc: Global, value: &Value) -> Result<LineOp, LineFault>
     Ok(LineOp { place, text, force })
 }
 
-/// Where an op stands. Which of two fields tells it decides which others it may have.
+/// Parses the place of an op: the span of the field `at`, or the positions of the field `range` if there is no `at`.
+/// Beside this field the op may have only `text` and `force`.
 fn place_in(value: &Value) -> Result<Place, LineFault>
     ensures { Reads result (place_in (view value.now)) }
 {

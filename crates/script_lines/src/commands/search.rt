@@ -1,4 +1,4 @@
-//! The commands that look for a text.
+//! The commands that search for a text.
 
 ghost use Rattle.serde_json.specs.View.{view};
 ghost use Rattle.script_lines.specs.Reading.{Reads};

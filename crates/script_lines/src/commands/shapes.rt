@@ -1,4 +1,4 @@
-//! The shapes that many commands have.
+//! Sets of fields that several commands have in common.
 
 ghost use Rattle.serde_json.specs.View.{view};
 ghost use Rattle.script_lines.specs.Reading.{Reads};
@@ -9,7 +9,7 @@ use crate::fields::{LineFault, expect_fields, number_at, position_in, span_at};
 use serde_json::Value;
 use text_lengths::{Position, Span};
 
-/// The command, which has no field of its own.
+/// Returns the command. Fails with `Syntax` if the value has fields other than `cmd` and `doc`.
 pub(super) fn bare(value: &Value, command: Command) -> Result<Command, LineFault>
     ensures { Reads result (bare command (view value.now)) }
 {
@@ -17,7 +17,7 @@ pub(super) fn bare(value: &Value, command: Command) -> Result<Command, LineFault
     Ok(command)
 }
 
-/// The number that a command's one field has.
+/// Returns the number in the field `key`, the only one of the command.
 pub(super) fn sole_number(value: &Value, key: &str) -> Result<u64, LineFault>
     ensures { Reads result (sole_number key.now (view value.now)) }
 {
@@ -25,7 +25,7 @@ pub(super) fn sole_number(value: &Value, key: &str) -> Result<u64, LineFault>
     number_at(value, key)
 }
 
-/// The numbers that a command's two fields have.
+/// Returns the numbers in the fields `key` and `other`, the only ones of the command.
 pub(super) fn two_numbers(value: &Value, key: &str, other: &str) -> Result<(u64, u64), LineFault>
     ensures { Reads result (two_numbers key.now other.now (view value.now)) }
 {
@@ -35,7 +35,7 @@ pub(super) fn two_numbers(value: &Value, key: &str, other: &str) -> Result<(u64,
     Ok((first, second))
 }
 
-/// The span that a command's one field has.
+/// Returns the span in the field `key`, the only one of the command.
 pub(super) fn sole_span(value: &Value, key: &str) -> Result<Span, LineFault>
     ensures { Reads result (sole_span key.now (view value.now)) }
 {
@@ -43,7 +43,7 @@ pub(super) fn sole_span(value: &Value, key: &str) -> Result<Span, LineFault>
     span_at(value, key)
 }
 
-/// The position that a command's fields name.
+/// Returns the position in the fields `line` and `col`, the only ones of the command.
 pub(super) fn sole_position(value: &Value) -> Result<Position, LineFault>
     ensures { Reads result (sole_position (view value.now)) }
 {

@@ -1,4 +1,4 @@
-//! Pieces of few units that lie side by side, written anew as one.
+//! Rewrites adjacent pieces of few units as one.
 
 ghost use Rattle.std.specs.Prelude.{◌≡◌, ◌+◌, ◌≤◌, true, false, length, IfSome, IsTrue};
 ghost use Rattle.std.specs.List.{All};
@@ -13,13 +13,13 @@ use crate::text::TextBuffer;
 use line_starts::count_breaks;
 use piece_tree::{MOST_PIECES, PieceTree, Stretch};
 
-/// Fewer pieces than that are not written anew.
+/// Fewer pieces than this are not rewritten.
 pub const LEAST_REWRITTEN: usize = MOST_PIECES / 4 * 3;
 
-/// A text whose buffers hold more than this many times its units, and 2^16 more, has none written anew by itself.
+/// No pieces are rewritten if the buffers hold more than this many times the units of the text, and 2^16.
 const MOST_TIMES_HELD: u64 = 4;
 
-/// The pieces that lie side by side where the text was looked up last, where they are many and have few units.
+/// Returns the pieces of the run that was looked up last, if they are many and have few units.
 fn crowded(pieces: &PieceTree, remembered: &Remembered) -> Option<Stretch>
     requires { All (IsFound pieces.now.entries) remembered.now }
     ensures { IfSome result (IsCrowded pieces.now.entries) }
@@ -33,9 +33,9 @@ fn crowded(pieces: &PieceTree, remembered: &Remembered) -> Option<Stretch>
 }
 
 impl TextBuffer {
-    /// Writes the pieces anew, as one, that lie side by side where the text was changed last, if they are at least 12 and have at most
-    /// 256 units together, and tells whether it did. It does where there is room for it and the buffers hold at most 4 times the units
-    /// of the text and 2^16. It takes no memory.
+    /// Rewrites the pieces of the run that was changed last as one piece, if they are at least 12 and have at most 256 units together. Does
+    /// so only if there is room for it and the buffers hold at most 4 times the units of the text and 2^16. Returns whether it did. It takes
+    /// no memory.
     pub fn rewrite_crowded(&mut self) -> bool
         ensures units { self.new.units ≡ self.old.units }
         ensures kind { self.new.kind ≡ self.old.kind }
@@ -69,7 +69,7 @@ impl TextBuffer {
         true
     }
 
-    // Whether there is room for these units, and the buffers do not hold too much already.
+    // Returns whether there is room for these units, and the buffers do not hold too much already.
     fn can_append(&self, units: &[u16]) -> bool
         ensures { IsTrue result → HasRoomFor units.now self.now.room }
     {

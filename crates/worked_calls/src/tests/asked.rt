@@ -1,4 +1,4 @@
-//! How many lines a question about brackets asks for.
+//! The number of lines that a question about brackets asks for.
 
 use super::documents::{open, put};
 use model_core::Model;
@@ -10,7 +10,7 @@ use unit_text::units_of;
 
 const LINES: u64 = 1000;
 
-/// Inside the pair of a line in the middle.
+/// An offset inside the pair of a middle line.
 const MIDDLE: u64 = 1501;
 
 pub fn expect_one_line_asked<R: AllocGlobal + Abort>(
@@ -22,7 +22,7 @@ pub fn expect_one_line_asked<R: AllocGlobal + Abort>(
     Ok(())
 }
 
-/// How many lines the first question asked for, and how many the one after an edit.
+/// Returns the number of lines that the first question asked for, and that the question after an edit asked for.
 fn ask_edit_and_ask(alloc: Global, model: &mut Model) -> Result<(u64, u64), Fail> {
     let text = pairs(alloc)?;
     open(model, &text)?;
@@ -35,7 +35,7 @@ fn ask_edit_and_ask(alloc: Global, model: &mut Model) -> Result<(u64, u64), Fail
     Ok((first, asked(model)?))
 }
 
-/// So many lines `()`.
+/// Returns a text of `LINES` lines `()`.
 fn pairs(alloc: Global) -> Result<Vec<u16>, AllocError> {
     let mut text = Vec::new(alloc);
     units_of("()", &mut text)?;
@@ -45,7 +45,7 @@ fn pairs(alloc: Global) -> Result<Vec<u16>, AllocError> {
     Ok(text)
 }
 
-/// How many lines the parse for a question asked for.
+/// Returns the number of lines that the parse for a question asked for.
 fn asked(model: &mut Model) -> Result<u64, Fail> {
     model.level_at(Position { line: 1, column: 1 })?;
     Ok(model.parsed().map_or(0, |parsed| parsed.asked()))

@@ -1,4 +1,4 @@
-//! Breaks that are found by lanes, beside one unit after another.
+//! Breaks found in lanes, compared with a search unit by unit.
 
 use line_starts::{count_breaks, find_starts};
 use plain_breaks::{TEXTS, agree_on};
@@ -10,7 +10,7 @@ const LINE_FEED: u16 = 10;
 
 const LETTER: u16 = 0x61;
 
-/// Two groups of lanes, and some units more.
+/// Two groups of lanes and some more units.
 const LONGEST: usize = 70;
 
 /// A break at each place of texts of each length, so at each border of lanes.
@@ -24,7 +24,7 @@ fn lanes_find_each_break(rt: HostRuntime) -> Result<(), Fail> {
     Ok(())
 }
 
-/// Pairs across the borders of 32 lanes.
+/// CR LF pairs across the borders of 32 lanes.
 #[test]
 fn pairs_across_lanes_are_one_break(rt: HostRuntime) -> Result<(), Fail> {
     let mut units = [LETTER; 65];

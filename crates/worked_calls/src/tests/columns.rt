@@ -1,4 +1,4 @@
-//! Where a cursor may stop.
+//! The stops of a cursor.
 
 use std::test::Fail;
 use stops::stops;

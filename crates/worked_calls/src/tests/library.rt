@@ -1,4 +1,4 @@
-//! The document as a library. One function owns it for all that is tried, since to drop a document is dear to prove.
+//! The document as a library. One function owns it throughout, since dropping a document is expensive to prove.
 
 use super::asked::expect_one_line_asked;
 use super::documents::{open, put};
@@ -31,15 +31,14 @@ fn expect_each_of<R: AllocGlobal + Abort>(rt: &R, model: &mut Model) -> Result<(
     expect_a_mirror_that_follows(rt, model)
 }
 
-/// As CONTRIBUTING.md shows it.
+/// The example of CONTRIBUTING.md.
 fn expect_a_batch<R: AllocGlobal + Abort>(rt: &R, model: &mut Model) -> Result<(), Fail> {
     let shown = edit_by_a_batch(rt.alloc(), model)?;
     assert_eq!(rt; shown.as_slice(), b"aXd".as_slice());
     Ok(())
 }
 
-/// `abc` is put in, `b` is taken out, `XY` comes in the place of `a`, and `Z` in that of each `Y`. Other line endings
-/// change nothing here.
+/// Inserts `abc`, deletes `b`, replaces `a` by `XY` and each `Y` by `Z`. The change of line endings has no effect here.
 fn expect_single_edits<R: AllocGlobal + Abort>(rt: &R, model: &mut Model) -> Result<(), Fail> {
     let shown = edit_by_single_edits(rt.alloc(), model)?;
     assert_eq!(rt; shown.as_slice(), b"XZc".as_slice());

@@ -1,4 +1,4 @@
-//! A batch on the longest text, which lies in no memory.
+//! A batch on a text of the greatest length, which is not in memory.
 ghost use Rattle.std.specs.Prelude.{List, ℕ, replicate};
 ghost use Rattle.unit_text.specs.declared.kind.Kind.TheVariants.{Mixed};
 
@@ -13,7 +13,7 @@ const LETTER: u16 = 0x61;
 
 static ONE_LETTER: [u16; 1] = [LETTER];
 
-/// A text of one letter, so many times.
+/// A text of one letter, `count` times.
 #[derive(Drop)]
 struct Letters {
     count: u64,
@@ -52,7 +52,7 @@ impl Flat for Letters {
     }
 }
 
-/// A batch that inserts a letter at the text's end.
+/// Returns a batch that inserts a letter at the end of the text.
 fn one_more(alloc: Global, count: u64) -> Result<Batch, BatchError> {
     let text = Units::from_vec(vec![in alloc; LETTER].map_err(|_| BatchError::Memory)?);
     let span = Span {

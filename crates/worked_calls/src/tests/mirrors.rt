@@ -8,7 +8,7 @@ use std::process::Abort;
 use std::test::Fail;
 use text_lengths::Span;
 
-/// Of two events the second comes first, the first comes twice, and the second again.
+/// Sends two events: the second too early, then the first twice, then the second again.
 pub fn expect_a_mirror_that_follows<R: AllocGlobal + Abort>(
     rt: &R,
     model: &mut Model,
@@ -43,7 +43,7 @@ fn expect_both_taken<R: AllocGlobal + Abort>(
     Ok(())
 }
 
-/// The events by which `x` comes before `ab`, and `y` behind it.
+/// Returns the events of two edits: `x` before `ab`, and `y` after it.
 fn events_of_two_edits(alloc: Global, model: &mut Model) -> Result<Vec<Event>, Fail> {
     open(model, &[0x61, 0x62])?;
     put(alloc, model, Span { start: 0, end: 0 }, &[0x78])?;
@@ -58,7 +58,7 @@ fn events_of_two_edits(alloc: Global, model: &mut Model) -> Result<Vec<Event>, F
     Ok(events)
 }
 
-/// The last change as an event, two times.
+/// Returns the last change as an event, twice.
 fn twice(alloc: Global, model: &Model) -> Result<Vec<Event>, AllocError> {
     let mut events = Vec::new(alloc);
     for _ in 0..2 {

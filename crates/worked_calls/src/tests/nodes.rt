@@ -1,4 +1,4 @@
-//! Lists of bracket trees, and trees that are shared.
+//! Lists of bracket trees, and shared trees.
 
 use bracket_nodes::{Entry, Node, Status, capped_node, concat, pair_node, stray_node, text_node};
 use std::alloc::{AllocError, Global};
@@ -10,7 +10,7 @@ const ONE: Length = Length {
     columns: 1,
 };
 
-/// `(` and `)` round `]`, a text of one unit, and a bracket at the cap, as one list.
+/// Returns `(` and `)` round `]`, a text of one unit, and a bracket at the cap, as one list.
 fn list(alloc: Global) -> Result<Node, AllocError> {
     let mut nodes = Vec::new(alloc);
     let inside = stray_node(alloc, 1, ONE)?;

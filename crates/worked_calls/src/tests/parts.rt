@@ -1,4 +1,4 @@
-//! Breaks of a part of a buffer, which are read where it is short and searched where it is long, beside one unit after another.
+//! Breaks of a part of a buffer, compared with a search unit by unit. Short parts are read, long ones searched.
 
 ghost use Rattle.std.specs.Prelude.{◌≡◌, ◌≤◌, length};
 ghost use Rattle.chunk_buffers.specs.Chunks.{LiesIn};
@@ -14,10 +14,10 @@ const LINE_FEED: u16 = 10;
 
 const LETTER: u16 = 0x61;
 
-/// Some units more than two short parts have.
+/// A little more than the length of two short parts.
 const LEN: usize = 150;
 
-/// A text in which a CR, an LF and both follow one another, at distances that differ.
+/// Returns a text with breaks CR, LF and CR LF at varying distances.
 fn mixed() -> [u16; LEN] {
     let mut units = [LETTER; LEN];
     for at in 0..LEN {
@@ -31,7 +31,7 @@ fn mixed() -> [u16; LEN] {
     units
 }
 
-/// Whether the breaks of the part end where they do one unit after another.
+/// Whether the breaks of the part end at the places that the search unit by unit gives.
 fn agrees(
     alloc: Global,
     chunks: &Chunks,
@@ -54,7 +54,7 @@ fn agrees(
     Ok(starts.as_slice() == plain.as_slice())
 }
 
-/// Parts from each place on, around the length up to which they are read.
+/// Parts from each place on, with lengths around the limit up to which they are read.
 #[test]
 fn breaks_of_parts(rt: HostRuntime) -> Result<(), Fail> {
     let mut chunks = Chunks::new(rt.alloc());

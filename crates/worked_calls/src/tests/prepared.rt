@@ -1,4 +1,4 @@
-//! Changes that are prepared and then committed.
+//! Changes that are prepared and later committed.
 
 use super::documents::open;
 use model_core::{Model, Op};
@@ -8,7 +8,7 @@ use std::test::Fail;
 use text_lengths::Span;
 use unit_text::Units;
 
-/// What is seen of a document: how many units, its version, and whether there is something to undo or redo.
+/// The visible state of a document: its number of units, its version, and whether undo or redo is possible.
 #[derive(Clone, Copy)]
 struct Seen {
     units: u64,
@@ -30,7 +30,7 @@ pub fn expect_a_change_in_two_parts<R: AllocGlobal + Abort>(
     Ok(())
 }
 
-/// The units and the version when an edit is prepared; and what is seen when it is committed, and when it is undone.
+/// Returns the units and the version while an edit is prepared, and the visible state after commit and after undo.
 fn edit_and_undo(alloc: Global, model: &mut Model) -> Result<((u64, u64), Seen, Seen), Fail> {
     open(model, &[0x61, 0x62, 0x63, 0x64, 0x65, 0x66])?;
     let prepared = edit_later(alloc, model)?;
@@ -40,7 +40,7 @@ fn edit_and_undo(alloc: Global, model: &mut Model) -> Result<((u64, u64), Seen, 
     Ok((prepared, edited, undone))
 }
 
-/// Puts X in the place of two units. Tells how many there were, and the version, when all was prepared.
+/// Replaces two units by X. Returns the number of units and the version at the moment when the edit was prepared.
 fn edit_later(alloc: Global, model: &mut Model) -> Result<(u64, u64), Fail> {
     let ops = x_for_two(alloc)?;
     let ready = model.prepare(ops)?;

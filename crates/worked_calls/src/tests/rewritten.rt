@@ -1,5 +1,5 @@
-//! A small text in many pieces, which is written anew, beside a plain list of its units; and short and longer ops, which the
-//! history keeps in two forms.
+//! A small text in many pieces that gets rewritten, compared with a plain list of its units; with short and longer
+//! ops, which the history stores in two forms.
 
 use super::documents::{open, put};
 use model_core::Model;
@@ -10,12 +10,12 @@ use text_lengths::Span;
 
 const LETTER: u16 = 0x61;
 
-/// At version 2,048 the text lies in more than 1,024 pieces, and is written anew.
+/// At version 2,048 the text has more than 1,024 pieces and is rewritten.
 const LEN: usize = 6_000;
 
 const EDITS: usize = 2_200;
 
-/// The plain list at the end, and the text: after the edits, when they are undone, and when they are made again.
+/// The plain list at the end, and the text: after the edits, after undo, and after redo.
 #[derive(Drop)]
 struct Texts {
     plain: Vec<u16>,
@@ -70,7 +70,7 @@ fn letters(alloc: Global) -> Result<Vec<u16>, AllocError> {
     Ok(units)
 }
 
-/// Puts other units in the place of one, or of nine each seventh time, in both.
+/// Replaces one unit, or nine every seventh time, in both.
 fn edit(alloc: Global, model: &mut Model, plain: &mut Vec<u16>, turn: usize) -> Result<(), Fail> {
     let at = turn.wrapping_mul(2_741) % (LEN - 9);
     let len = if turn % 7 == 0 { 9 } else { 1 };

@@ -1,4 +1,4 @@
-//! The spans of an edited text, the lines that an edit touches, and a text in a buffer with just the room for it.
+//! The spans of an edited text, the lines that an edit touches, and a text in a buffer of just sufficient capacity.
 
 use chunk_buffers::Chunks;
 use std::alloc::{AllocError, Global};
@@ -42,7 +42,7 @@ fn units_by_spans(alloc: Global, text: &TextBuffer) -> Result<Vec<u16>, AllocErr
     Ok(units)
 }
 
-/// An LF comes behind a CR that was a break alone.
+/// An LF is inserted after a CR that was a break alone.
 #[test]
 fn lines_that_an_edit_touches(rt: HostRuntime) -> Result<(), Fail> {
     let text = TextBuffer::of_units(rt.alloc(), &[A, 13, B], Kind::Mixed)?;
@@ -56,7 +56,7 @@ fn lines_that_an_edit_touches(rt: HostRuntime) -> Result<(), Fail> {
     Ok(())
 }
 
-/// A CR, and a CR LF behind it.
+/// A CR, followed by a CR LF.
 #[test]
 fn text_with_just_the_room_for_its_breaks(rt: HostRuntime) -> Result<(), Fail> {
     let mut chunks = Chunks::new(rt.alloc());
@@ -68,7 +68,7 @@ fn text_with_just_the_room_for_its_breaks(rt: HostRuntime) -> Result<(), Fail> {
     Ok(())
 }
 
-/// More room than units that are left, and less.
+/// Buffers longer and shorter than the rest of the text.
 #[test]
 fn units_read_into_a_buffer(rt: HostRuntime) -> Result<(), Fail> {
     let text = TextBuffer::of_units(rt.alloc(), &[A, B, X], Kind::Mixed)?;
@@ -80,7 +80,7 @@ fn units_read_into_a_buffer(rt: HostRuntime) -> Result<(), Fail> {
     Ok(())
 }
 
-/// The last position first, and one past the content of its line.
+/// Begins with the last position; one of the positions is past the content of its line.
 #[test]
 fn positions_located(rt: HostRuntime) -> Result<(), Fail> {
     let mut text = TextBuffer::of_units(rt.alloc(), &[A, 13, 10, B, X], Kind::Mixed)?;

@@ -7,7 +7,7 @@ use super::table::{Case, PLAIN, READ_FAULT, Run, WRITE_FAULT};
 use memory_streams::Fault;
 use script_runner::Served;
 
-/// The most bytes that a line may have, its LF not counted.
+/// The most bytes in a line, excluding its LF.
 const MOST_LINE_BYTES: usize = 1 << 24;
 
 const SIZE: &str = "{\"cmd\":\"size\"}\n";
@@ -24,7 +24,7 @@ const QUESTIONS: &str = r#"{"cmd":"brackets","from":1,"to":1}
 
 const SNAPSHOT: &str = "{\"cmd\":\"snapshot\"}\n";
 
-/// What becomes of ids that are closed, open and new.
+/// Commands on closed, open and new ids.
 const OTHER_IDS: &str = r#"{"cmd":"read","id":1,"count":9}
 {"cmd":"read","id":2,"count":9}
 {"cmd":"close","id":500}
@@ -71,7 +71,7 @@ pub const CASES: &[Case] = &[
         written: ONE_REPLY,
         ..READ_FAULT
     }),
-    // The second line lacks its LF, and the end was not seen.
+    // The second line lacks its LF, and the end was not reached.
     Case::Run(Run {
         name: "a read that fails inside a line",
         script: SIZES,
@@ -147,7 +147,7 @@ pub const CASES: &[Case] = &[
         &[Part::Text("{\"cmd\":\"open\",\"text\":\"\\ud83d\"}\n")],
         SYNTAX,
     ),
-    // A line may nest 127 deep, its own braces counted.
+    // A line may nest 127 levels deep, including its own braces.
     Case::Run(Run {
         name: "values nested as deep as may be",
         script: &[

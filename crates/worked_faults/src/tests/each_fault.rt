@@ -1,4 +1,4 @@
-//! A script of which each read fails in turn, or each write.
+//! A script in which each read, or each write, fails in turn.
 
 use super::expected::expect_written;
 use memory_streams::Fault;
@@ -12,7 +12,7 @@ const READ_BYTES: usize = 7;
 /// The most bytes that a write takes.
 const WRITTEN_BYTES: usize = 3;
 
-/// The lines that came whole before a read failed have their replies, and no other has.
+/// The lines read whole before a read failed have their replies, and no other line has.
 pub fn expect_each_read_fault<R: AllocGlobal + Abort>(
     rt: &R,
     rows: &str,
@@ -30,7 +30,7 @@ pub fn expect_each_read_fault<R: AllocGlobal + Abort>(
     expect_read_fault(rt, script, call, replies.as_bytes())
 }
 
-/// The replies to the lines that come whole in the first bytes of a script.
+/// Returns the replies to the lines that are complete in the first bytes of a script.
 fn replies_to(alloc: Global, given: &[u8], replies: &str) -> Result<String, AllocError> {
     let lines = given.iter().filter(|byte| **byte == b'\n').count();
     let mut written = String::new(alloc);
@@ -54,7 +54,7 @@ fn expect_read_fault<R: AllocGlobal + Abort>(
     expect_written(rt, name.as_str(), script, (reads, ALL_WRITTEN), written, 4)
 }
 
-/// What was taken before a write failed is there, and nothing else.
+/// The bytes taken before a write failed are there, and nothing else.
 pub fn expect_each_write_fault<R: AllocGlobal + Abort>(
     rt: &R,
     rows: &str,
@@ -69,7 +69,7 @@ pub fn expect_each_write_fault<R: AllocGlobal + Abort>(
     Ok(())
 }
 
-/// Each write of the reply fails in turn. Gives the number of the write after them.
+/// Makes each write of the reply fail in turn. Returns the number of the write after them.
 fn each_write_of<R: AllocGlobal + Abort>(
     rt: &R,
     script: &[u8],

@@ -1,4 +1,4 @@
-//! A script in which each command stands once, with its replies.
+//! A script that contains each command once, with its replies.
 
 pub const EVERY_COMMAND: &str = r#"
 {"cmd":"open","text":"(a)\r\nb"} => ok 1 6 2

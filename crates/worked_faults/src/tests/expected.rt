@@ -1,10 +1,10 @@
-//! A run beside what is expected of it.
+//! A run compared with what is expected of it.
 
 use script_checks::{Reads, Writes, difference};
 use std::alloc::AllocError;
 use std::process::Abort;
 
-/// The script that is read and answered so ends with the status, and has this written.
+/// Expects the run of the script, with these reads and writes, to end with the status and to write exactly this.
 pub fn expect_written<R: AllocGlobal + Abort>(
     rt: &R,
     name: &str,

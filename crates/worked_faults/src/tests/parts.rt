@@ -1,25 +1,25 @@
-//! Scripts and replies in parts, since a table keeps no long ones.
+//! Scripts and replies in parts, since a table stores no long ones.
 
 use std::alloc::{AllocError, Global};
 
-/// A part of a script, or of what is written for it.
+/// A part of a script, or of the expected output.
 #[derive(Clone, Copy)]
 pub enum Part {
     Text(&'static str),
     Bytes(&'static [u8]),
-    /// The text, so many times.
+    /// The text, repeated this many times.
     Times(&'static str, u64),
-    /// So many blanks.
+    /// This many blanks.
     Blanks(usize),
-    /// The line once for each of its bytes, with a byte that UTF-8 has nowhere in its place.
+    /// The line once for each of its bytes, with that byte replaced by one that never occurs in UTF-8.
     BrokenAtEachByte(&'static str),
-    /// What `brackets` tells of so many opening brackets in the first line that nothing closes.
+    /// The reply of `brackets` to this many unclosed opening brackets in the first line.
     Unclosed(u64),
-    /// Each number from 1 to this, in a reply of its own.
+    /// Each number from 1 to this one, each in a reply of its own.
     Counted(u64),
 }
 
-/// The parts one behind the other.
+/// Returns the concatenation of the parts.
 pub fn bytes_of(alloc: Global, parts: &[Part]) -> Result<Vec<u8>, AllocError> {
     let mut bytes = Vec::new(alloc);
     for part in parts {

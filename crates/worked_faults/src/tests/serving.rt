@@ -1,4 +1,4 @@
-//! Scripts that are served within a budget of bytes.
+//! Scripts served within a budget of bytes.
 
 use memory_streams::{Fault, MemSink, MemSource};
 use script_checks::served;
@@ -6,7 +6,7 @@ use script_runner::Served;
 use std::alloc::AllocError;
 use std::process::Abort;
 
-/// A budget for the script of one line, which writes fail or come short, and what comes of it. A read gives at most seven
+/// A budget for the one-line script, the faults of the writes, and the expected result. A read gives at most seven
 /// bytes.
 pub struct Serving {
     pub name: &'static str,
@@ -14,15 +14,15 @@ pub struct Serving {
     pub faults: &'static [Fault],
     pub ended: Served,
     pub written: &'static [u8],
-    /// How many reads are made: none after the budget, and none after the end.
+    /// The number of reads made: none after the budget is used up, and none after the end.
     pub reads: u64,
-    /// How many writes are made: one that comes after a short one is offered all that is left of the reply.
+    /// The number of writes made: one after a short write is offered the rest of the reply.
     pub writes: u64,
 }
 
 const SCRIPT: &[u8] = b"{\"cmd\":\"size\"}\n";
 
-/// One with more bytes in the budget than the script has.
+/// A budget of more bytes than the script has.
 pub const SERVED: Serving = Serving {
     name: "many more",
     most: 64,

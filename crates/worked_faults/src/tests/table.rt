@@ -1,4 +1,4 @@
-//! What a case is, and how it is run.
+//! The cases of the table, and how each is run.
 
 use super::cases::CASES;
 use super::each_fault::{expect_each_read_fault, expect_each_write_fault};
@@ -14,34 +14,34 @@ use std::test::Fail;
 /// A row of the table.
 pub enum Case {
     Run(Run),
-    /// A run named so, whose script is refused with this one reply.
+    /// A run with this name, whose script is refused with this single reply.
     Refused(&'static str, &'static [Part], &'static str),
-    /// The script and replies of these rows: each read of the script fails in turn.
+    /// The script and replies of these rows; each read of the script fails in turn.
     EachReadFails(&'static str),
     /// Each write fails in turn.
     EachWriteFails(&'static str),
     Serving(Serving),
 }
 
-/// A script for the word `run`, and what is expected of it.
+/// A script for the word `run`, and its expected result.
 #[derive(Clone, Copy)]
 pub struct Run {
     pub name: &'static str,
     pub script: &'static [Part],
-    /// The most bytes that a read gives, and which read fails.
+    /// The most bytes that a read gives, and the number of the read that fails.
     pub most_read: usize,
     pub failing_read: Option<u64>,
-    /// The most bytes that a write takes, and which writes fail or take less.
+    /// The most bytes that a write takes, and the writes that fail or take fewer.
     pub most_taken: usize,
     pub faults: &'static [Fault],
     pub written: &'static [Part],
     pub status: u8,
 }
 
-/// More bytes than one call has to do with in most cases.
+/// More bytes than a single call handles in most cases.
 const MANY: usize = 0x1_0000;
 
-/// A run without a fault that writes nothing: rows say what is different.
+/// A run without a fault that writes nothing; each row lists what differs.
 pub const PLAIN: Run = Run {
     name: "",
     script: &[],
@@ -53,14 +53,14 @@ pub const PLAIN: Run = Run {
     status: 0,
 };
 
-/// One whose second read fails.
+/// A run whose second read fails.
 pub const READ_FAULT: Run = Run {
     failing_read: Some(2),
     status: 4,
     ..PLAIN
 };
 
-/// One of which not all is taken.
+/// A run whose output is not taken whole.
 pub const WRITE_FAULT: Run = Run { status: 5, ..PLAIN };
 
 #[test]

@@ -1,11 +1,11 @@
-//! Replies to the questions about brackets, from a tree.
+//! Replies to questions about brackets, computed from a tree.
 
 use bracket_nodes::{Entry, Node, Status};
 use script_lines::{Short, long_begin, long_end, long_mark, long_number};
 use std::alloc::{AllocError, Global};
 use text_lengths::{Length, Position};
 
-/// Replies with the brackets of the lines, which count from 1.
+/// Appends the reply with the brackets of the lines, which count from 1.
 pub fn push_brackets(
     alloc: Global,
     tree: &Node,
@@ -39,7 +39,7 @@ fn letter(status: Status) -> u8 {
     }
 }
 
-/// Replies with the place and the width of the other bracket of a pair.
+/// Appends the reply with the place and the width of the other bracket of a pair.
 pub fn push_partner(tree: &Node, position: Position, out: &mut Vec<u8>) -> Result<(), AllocError> {
     let Some((place, width)) = tree.partner_of(place_of(position)) else {
         return out.extend_from_slice(Short::none().as_slice());
@@ -50,14 +50,14 @@ pub fn push_partner(tree: &Node, position: Position, out: &mut Vec<u8>) -> Resul
     long_end(out)
 }
 
-/// Replies with how many brackets are open there.
+/// Appends the reply with the number of brackets open at the position.
 pub fn push_level(tree: &Node, position: Position, out: &mut Vec<u8>) -> Result<(), AllocError> {
     long_begin(out)?;
     long_number(tree.level_at(place_of(position)), out)?;
     long_end(out)
 }
 
-/// The place in a tree, where lines and columns count from 0.
+/// Returns the place in a tree, where lines and columns count from 0.
 fn place_of(position: Position) -> Length {
     Length {
         lines: position.line.saturating_sub(1),

@@ -1,6 +1,6 @@
 //! Numbers for generated scripts.
 
-/// Draws numbers, the same for the same seed.
+/// A generator of numbers, determined by its seed.
 #[derive(Drop)]
 pub struct Draws {
     state: u64,
@@ -11,7 +11,7 @@ impl Draws {
         Draws { state: seed }
     }
 
-    /// The next number, which is below `bound` where that is not 0.
+    /// Returns the next number; it is below `bound`, unless `bound` is 0.
     pub fn below(&mut self, bound: u64) -> u64 {
         self.state = self
             .state

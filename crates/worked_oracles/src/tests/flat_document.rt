@@ -1,5 +1,5 @@
-//! A flat document: one list of units that each edit copies, that each search goes through, and that each question about
-//! brackets parses whole.
+//! A flat document: one list of units, which each edit copies and each search scans; each question about brackets
+//! parses it whole.
 
 ghost use Rattle.std.specs.Prelude.{◌≡◌, ◌<◌, false, length};
 ghost use Rattle.text_rules.specs.Edits.{is_bad_span};
@@ -21,18 +21,18 @@ use text_lengths::{Position, Span};
 use text_rules::is_bad_span;
 use unit_text::{Flat, Kind, Units};
 
-/// A document whose text is one list. It keeps one step of undo.
+/// A document whose text is a single list. It keeps one step of undo.
 #[derive(Drop)]
 pub struct OneList {
     alloc: Global,
     text: Units,
     /// The kind of its line endings.
     kind: Kind,
-    /// Its brackets, and what hides some of them.
+    /// Its brackets, and the rules that hide some of them.
     table: BracketTable,
     hiding: Hiding,
     version: u64,
-    /// What stands on the other side of the last step: before it, or after it once it was undone.
+    /// The other side of the last step: the text before it or, once the step is undone, after it.
     other: Option<Other>,
     is_undone: bool,
     /// Whether the next edit joins the last step.
@@ -40,7 +40,7 @@ pub struct OneList {
     was_refused: bool,
 }
 
-/// The text that a step leads to, and the kind of its line endings.
+/// The text to which a step leads, and the kind of its line endings.
 #[derive(Drop)]
 struct Other {
     text: Units,
@@ -75,7 +75,7 @@ impl OneList {
         self.was_refused
     }
 
-    /// Carries out the line's command, which is on document 0, and appends its reply.
+    /// Carries out the line's command, which addresses document 0, and appends its reply.
     pub fn answer(&mut self, line: &[u8], out: &mut Vec<u8>) -> Result<(), AllocError> {
         match request_of(self.alloc, line) {
             Ok(Request::One { doc: 0, command }) => self.carry_out(command, out),
@@ -124,7 +124,7 @@ impl OneList {
         }
     }
 
-    /// The ops stand in the order of the text and do not overlap.
+    /// Carries out the ops, which are in text order and do not overlap.
     fn edit(&mut self, ops: LineOps, out: &mut Vec<u8>) -> Result<(), AllocError> {
         let mut text = Units::copy_of(self.alloc, self.text.as_slice())?;
         for op in ops.into_vec().iter().rev() {
@@ -149,7 +149,7 @@ impl OneList {
         self.after_change(out)
     }
 
-    /// Puts the new text in the place of each span at which the sought one stands. That is a step of its own.
+    /// Replaces each match of `sought` by `new`, as a step of its own.
     fn replace_all(
         &mut self,
         sought: &[u16],
@@ -170,7 +170,7 @@ impl OneList {
         self.go_on_alone(text, self.kind, out)
     }
 
-    /// Gives each line the ending of the kind. That is a step of its own.
+    /// Changes all line endings to the kind, as a step of its own.
     fn change_kind(&mut self, kind: Kind, out: &mut Vec<u8>) -> Result<(), AllocError> {
         if kind == self.kind {
             return out.extend_from_slice(Short::none().as_slice());
@@ -179,7 +179,7 @@ impl OneList {
         self.go_on_alone(text, kind, out)
     }
 
-    /// Goes on to the text, whose line endings are of the kind, by a step that no edit joins.
+    /// Replaces the text and its kind of line endings by a step that no edit joins.
     fn go_on_alone(
         &mut self,
         text: Units,
@@ -195,7 +195,7 @@ impl OneList {
         self.after_change(out)
     }
 
-    /// Goes back over the last step, or on over it again.
+    /// Undoes or redoes the last step.
     fn step(&mut self, is_undo: bool, out: &mut Vec<u8>) -> Result<(), AllocError> {
         match &mut self.other {
             Some(other) if self.is_undone != is_undo => {
@@ -284,7 +284,7 @@ impl OneList {
         long_end(out)
     }
 
-    /// The spans at which the units stand, from left to right. Each begins where the one before it ends, or later.
+    /// Returns the spans of the matches of `sought` that are valid spans, from left to right and without overlap.
     fn spans_of(&self, sought: &[u16]) -> Result<Vec<Span>, AllocError>
         requires { 0 < length sought.now }
     {
@@ -302,19 +302,19 @@ impl OneList {
         Ok(spans)
     }
 
-    /// Whether the span is none of the text.
+    /// Whether the span is invalid in the text.
     fn is_bad(&self, span: Span) -> bool
         ensures { result ≡ false → is_bad_span Kind.Mixed self.now.text span ≡ false }
     {
         is_bad_span(&self.text, span) || self.is_in_break(span.start) || self.is_in_break(span.end)
     }
 
-    /// Whether the place stands inside a break of a text of CR LF, where each LF ends one.
+    /// Whether the place is inside a break of a CR LF text, where every LF ends a break.
     fn is_in_break(&self, place: u64) -> bool {
         self.kind == Kind::Crlf && self.text.as_slice().get(place as usize) == Some(&LINE_FEED)
     }
 
-    /// The offset of the position, where it is one of the text.
+    /// Returns the offset of the position; None if the position is invalid.
     fn offset_of(&self, position: Position) -> Result<Option<u64>, AllocError> {
         let starts = line_starts(self.alloc, self.text.as_slice())?;
         let Some(content) = line_content(self.text.as_slice(), position.line) else {
@@ -363,7 +363,7 @@ impl OneList {
     }
 }
 
-/// The text with the line endings of the kind.
+/// Returns the text with the line endings of the kind.
 fn of_kind(alloc: Global, units: &[u16], kind: Kind) -> Result<Units, AllocError> {
     match kind {
         Kind::Mixed => Units::copy_of(alloc, units),
@@ -372,7 +372,7 @@ fn of_kind(alloc: Global, units: &[u16], kind: Kind) -> Result<Units, AllocError
     }
 }
 
-/// The text with the new one in the place of the span.
+/// Returns the text with the span replaced by `new`.
 fn edited(alloc: Global, units: &[u16], span: Span, new: &[u16]) -> Result<Units, AllocError> {
     let mut text = Vec::new(alloc);
     for unit in units.iter().take(span.start as usize) {

@@ -1,4 +1,4 @@
-//! The lines of a list of units, found from its front each time.
+//! The lines of a list of units, searched from its start each time.
 ghost use Rattle.std.specs.Prelude.{◌≤◌, ◌+◌, ◌<◌, length, IfSome};
 
 use std::alloc::{AllocError, Global};
@@ -8,7 +8,7 @@ pub const LINE_FEED: u16 = 10;
 
 pub const CARRIAGE_RETURN: u16 = 13;
 
-/// The places after the breaks.
+/// Returns the offsets after the breaks.
 pub fn line_starts(alloc: Global, units: &[u16]) -> Result<Vec<u64>, AllocError> {
     let mut starts = Vec::new(alloc);
     let next = units.iter().skip(1).copied().chain([0]);
@@ -30,7 +30,7 @@ pub fn line_count(units: &[u16]) -> u64 {
     count
 }
 
-/// The content of the line of this number, counted from 1.
+/// Returns the content of line `number`, counted from 1.
 pub fn line_content(units: &[u16], number: u64) -> Option<&[u16]> {
     if number == 0 {
         return None;
@@ -43,7 +43,7 @@ pub fn line_content(units: &[u16], number: u64) -> Option<&[u16]> {
     Some(first_line(rest).0)
 }
 
-/// The text with these units in the place of each break.
+/// Returns the text with each break replaced by `break_units`.
 pub fn with_breaks(alloc: Global, units: &[u16], break_units: &[u16]) -> Result<Units, AllocError> {
     let mut text = Vec::new(alloc);
     let mut rest = units;
@@ -56,7 +56,7 @@ pub fn with_breaks(alloc: Global, units: &[u16], break_units: &[u16]) -> Result<
     Ok(Units::from_vec(text))
 }
 
-/// The content of the first line, and the units after its break, if it has one.
+/// Returns the content of the first line, and the units after its break, if it has one.
 pub fn first_line(units: &[u16]) -> (&[u16], Option<&[u16]>)
     ensures { IfSome result.1 (λ after. length result.0.now + length after.now < length units.now) }
 {
@@ -71,7 +71,7 @@ pub fn first_line(units: &[u16]) -> (&[u16], Option<&[u16]>)
     (units, None)
 }
 
-/// What comes after the break that a CR before these units begins.
+/// Returns the rest after the break that a CR before these units begins.
 fn after_carriage_return(after: &[u16]) -> &[u16]
     ensures { length result.now ≤ length after.now }
 {

@@ -1,6 +1,6 @@
 //! Decorations that each edit moves one by one.
 
-/// A decoration, by start, then by end, then by id.
+/// A decoration, ordered by start, then end, then id.
 #[derive(Clone, Copy, PartialEq, Eq, PartialOrd, Ord)]
 pub struct FlatMark {
     pub start: u64,
@@ -10,7 +10,7 @@ pub struct FlatMark {
     pub collapse: bool,
 }
 
-/// An edit, as the decorations see it.
+/// An edit, as far as it affects decorations.
 #[derive(Clone, Copy)]
 pub struct FlatEdit {
     pub start: u64,
@@ -24,7 +24,7 @@ impl FlatEdit {
         self.end.saturating_sub(self.start)
     }
 
-    /// Where a start or an end stands after the edit, by whether it sticks to the text before it.
+    /// Returns the place of a start or an end after the edit; `sticks` says whether it sticks to the text before it.
     fn moved(&self, place: u64, sticks: bool) -> u64 {
         let holds = !self.force && sticks;
         let replaced = self.start.saturating_add(self.removed().min(self.units));
@@ -50,13 +50,13 @@ impl FlatEdit {
     }
 }
 
-/// Whether the place is before the other, or is the same and holds there.
+/// Whether the place is before the other, or equal to it while `holds`.
 fn is_before(place: u64, other: u64, holds: bool) -> bool {
     place < other || (place == other && holds)
 }
 
 impl FlatMark {
-    /// The decoration after the edit.
+    /// Returns the decoration after the edit.
     pub fn after(self, edit: &FlatEdit) -> FlatMark {
         if self.collapse && edit.start <= self.start && self.end <= edit.end {
             return FlatMark {

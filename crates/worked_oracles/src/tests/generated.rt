@@ -1,4 +1,4 @@
-//! Generated scripts, which a flat document answers as the program does.
+//! Generated scripts, which a flat document must answer as the program does.
 
 use super::draws::Draws;
 use super::flat_document::OneList;
@@ -7,19 +7,19 @@ use std::alloc::{AllocError, Global};
 use std::process::Abort;
 use std::test::Fail;
 
-/// A kind of script. Its texts stand as a script spells them.
+/// A kind of script. Its texts are written as in a script.
 struct Kind {
     name: &'static str,
-    /// The text that the document is opened with: each of these, so many times.
+    /// The initial text of the document: each of these, repeated this many times.
     parts: &'static [(&'static str, u64)],
-    /// The members of `open` that name the pairs, if they are not the standard ones, the marks of comments and strings, if
-    /// there are any, and the kind of line ending, if it is not any.
+    /// The members of `open` for the pairs, unless they are the standard ones, for the marks of comments and strings,
+    /// if any, and for the kind of line ending, if one is fixed.
     members: &'static str,
-    /// How many places there are, from the start of the text on, at which edits begin.
+    /// The number of places, from the start of the text on, at which edits begin.
     places: u64,
-    /// What edits put in. One of these, or two, one behind the other, are sought.
+    /// The texts that edits insert. One of them, or two concatenated, are searched for.
     texts: [&'static str; 8],
-    /// How many scripts there are, and how many rounds each has.
+    /// The number of scripts, and the number of rounds of each.
     scripts: u64,
     rounds: u64,
 }
@@ -48,7 +48,7 @@ const TEXTS: &[Kind] = &[
         scripts: 2,
         rounds: 60,
     },
-    // Of so few letters that what is sought often stands at places that overlap, and over edits.
+    // Few letters, so that matches often overlap each other and edits.
     Kind {
         name: "few letters",
         parts: &[("aba", 40)],
@@ -70,7 +70,7 @@ const BRACKETS: &[Kind] = &[
         scripts: 3,
         rounds: 40,
     },
-    // Some texts are the front of another, so that an edit of one unit parts or joins them.
+    // Some bracket texts are prefixes of others, so that an edit of one unit splits or joins them.
     Kind {
         name: "brackets of several units",
         parts: &[("begin ((a)) do\\r\\nod end\\n", 8)],
@@ -83,7 +83,8 @@ const BRACKETS: &[Kind] = &[
 ];
 
 const DEEP_BRACKETS: &[Kind] = &[
-    // At the end more brackets are open than a parse keeps open, so that edits make text of the last ones and brackets again.
+    // At the end more brackets are open than a parse keeps open, so that edits turn the last ones into text and back
+    // into brackets.
     Kind {
         name: "more brackets than are kept open",
         parts: &[("([{([{([{\\n", 32), ("[({[({[({[({[()]})]})]})]})]\\n", 6)],
@@ -110,7 +111,7 @@ const COMMENTS: &[Kind] = &[Kind {
 }];
 
 const LONG_COMMENTS: &[Kind] = &[
-    // Edits at the top begin and end a comment that goes on to a line in the middle, or to the end.
+    // Edits at the top begin and end a comment that extends to a line in the middle, or to the end.
     Kind {
         name: "long comments",
         parts: &[
@@ -127,7 +128,7 @@ const LONG_COMMENTS: &[Kind] = &[
 ];
 
 const MARKS_BESIDE_BRACKETS: &[Kind] = &[
-    // Some brackets begin as a mark does, and some have a mark inside them.
+    // Some brackets begin like a mark, and some contain a mark.
     Kind {
         name: "marks beside brackets",
         parts: &[("begin (- (x) -) end\\n", 4), ("(* ( *) e*) -- end\\n", 4)],
@@ -142,7 +143,7 @@ const MARKS_BESIDE_BRACKETS: &[Kind] = &[
     },
 ];
 
-/// A script that grows, with the flat document's replies to it.
+/// A growing script, with the flat document's replies to it.
 #[derive(Drop)]
 struct Growing {
     alloc: Global,
@@ -163,7 +164,7 @@ impl Growing {
         }
     }
 
-    /// Adds the lines to the script.
+    /// Appends the lines to the script.
     fn put(&mut self, lines: &str) -> Result<(), AllocError> {
         for line in lines.lines() {
             self.document.answer(line.as_bytes(), &mut self.replies)?;
@@ -182,8 +183,8 @@ impl Growing {
         self.put(line.as_str())
     }
 
-    /// An edit, or now and then a replace of all that is found or another kind of line ending, then questions; and now and
-    /// then back to the text before the step and on again.
+    /// Appends an edit, or now and then a replacement of all matches or another kind of line ending, then questions,
+    /// and now and then an undo and a redo of the step.
     fn go_on(&mut self, kind: &Kind, round: u64) -> Result<(), AllocError> {
         match round % 15 {
             2 | 12 | 14 => self.replace(kind)?,
@@ -201,7 +202,7 @@ impl Growing {
         Ok(())
     }
 
-    /// An edit with a `z` at the end in the same batch. Its span is now and then beyond the text or upside down.
+    /// Appends an edit, with a `z` at the end in the same batch. Its span is now and then beyond the text or reversed.
     fn edit(&mut self, kind: &Kind) -> Result<(), AllocError> {
         let len = self.document.len();
         let start = self.draws.below(len.saturating_add(2).min(kind.places));

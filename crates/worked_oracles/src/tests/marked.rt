@@ -1,4 +1,4 @@
-//! A generated script over thousands of decorations, whose replies a list of them gives too.
+//! A generated script on thousands of decorations, whose replies are also computed from a plain list.
 
 use super::draws::Draws;
 use super::flat_marks::{FlatEdit, FlatMark};
@@ -7,17 +7,17 @@ use std::alloc::{AllocError, Global};
 use std::process::Abort;
 use std::test::Fail;
 
-/// How many units the text begins with, and how many decorations.
+/// The number of units at the start, and the number of decorations.
 const UNITS: u64 = 15_000;
 
 const MARKS: u64 = 3_000;
 
 const ROUNDS: u64 = 30;
 
-/// The longest decoration, the most units that an edit takes or brings, and the widest question.
+/// The greatest length of a decoration, of the text that an edit removes or inserts, and of a span in a question.
 const WIDEST: u64 = 40;
 
-/// A script that grows, with its replies, and what they are told from.
+/// A growing script, with its replies and the data from which they are computed.
 #[derive(Drop)]
 struct Marked {
     alloc: Global,
@@ -52,14 +52,14 @@ impl Marked {
         self.replies.push_str(reply.as_str())
     }
 
-    /// A span of the text.
+    /// Returns a span of the text.
     fn span(&mut self) -> (u64, u64) {
         let start = self.draws.below(self.len.saturating_add(1));
         let end = start.saturating_add(self.draws.below(WIDEST));
         (start, end.min(self.len))
     }
 
-    /// Removes so many decorations and adds so many, in one line.
+    /// Removes `removed` decorations and adds `added`, in one line.
     fn decorate(&mut self, removed: u64, added: u64) -> Result<(), AllocError> {
         let first = self.next_id;
         self.script
@@ -105,7 +105,7 @@ impl Marked {
         Ok(())
     }
 
-    /// An edit, one time in four with force.
+    /// Appends an edit, one in four with force.
     fn edit(&mut self) -> Result<(), AllocError> {
         let (start, end) = self.span();
         let edit = FlatEdit {
@@ -131,7 +131,7 @@ impl Marked {
         self.replies.push_str(reply.as_str())
     }
 
-    /// Where one decoration is.
+    /// Asks for the place of one decoration.
     fn ask_for_one(&mut self) -> Result<(), AllocError> {
         let at = self.draws.below(self.marks.len() as u64) as usize;
         let Some(mark) = self.marks.get(at).copied() else {
@@ -143,7 +143,7 @@ impl Marked {
         self.replies.push_str(reply.as_str())
     }
 
-    /// Which decorations touch a span.
+    /// Asks for the decorations that touch a span.
     fn ask_for_span(&mut self, start: u64, end: u64) -> Result<(), AllocError> {
         let line = format!(in self.alloc; "{{\"cmd\":\"decos\",\"at\":[{start},{end}]}}\n")?;
         self.script.push_str(line.as_str())?;
@@ -171,7 +171,7 @@ impl Marked {
     }
 }
 
-/// Edits, removals and questions among many decorations, and then the place of each.
+/// Edits, removals and questions among many decorations, and at the end the place of each.
 #[test]
 fn marks_move_as_one_by_one(rt: HostRuntime) -> Result<(), Fail> {
     expect_same_marks(&rt)?;

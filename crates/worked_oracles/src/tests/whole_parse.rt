@@ -1,4 +1,4 @@
-//! The document's first parse: each line of the text is scanned, and nothing is taken over.
+//! The document's first parse: each line of the text is scanned, and nothing is reused.
 ghost use Rattle.std.specs.Prelude.{◌≡◌, ◌<◌, ◌^◌, length, sum, IfOk};
 ghost use Rattle.bracket_rules.specs.Table.{AreInLine};
 ghost use Rattle.bracket_nodes.specs.ScannedLines.{AreLines, scanned_weights};
@@ -8,7 +8,7 @@ use bracket_nodes::{Node, ScannedLine, parse_lines};
 use bracket_scan::{BracketTable, Hiding, LineState};
 use std::alloc::{AllocError, Global};
 
-/// The bracket tree of the text. Comments and strings hide some of its brackets.
+/// Returns the bracket tree of the text. Comments and strings hide some of its brackets.
 pub fn whole_parse(
     alloc: Global,
     table: &BracketTable,
@@ -19,7 +19,7 @@ pub fn whole_parse(
     parse_lines(alloc, scans.as_slice())
 }
 
-/// The scans of the lines. Each begins in the state in which the one before it ended.
+/// Returns the scans of the lines. Each line begins in the state in which the one before it ended.
 #[tactic(auto, using(crate::proofs::ScannedLines::one_more))]
 fn scans(
     alloc: Global,
@@ -42,7 +42,7 @@ fn scans(
     Ok(scans)
 }
 
-/// Scans a line that begins in this state, which becomes the one in which it ends.
+/// Scans a line that begins in `state`, and updates `state` to the one in which the line ends.
 #[tactic(auto, using(crate::proofs::ScannedLines::scan_in_line))]
 fn scan(
     alloc: Global,

@@ -6,7 +6,7 @@ use std::alloc::{AllocError, Global};
 use std::process::Abort;
 use std::test::Fail;
 
-/// Words that play a script, and the line that they write.
+/// Words that play a script, and the line that each writes.
 const PLAYED: &[(&str, &str)] = &[
     (
         "play 0 5",
@@ -39,7 +39,7 @@ fn scripts_that_are_played(rt: HostRuntime) -> Result<(), Fail> {
     Ok(())
 }
 
-/// The line comes whole, or a front of it where the write fails.
+/// The line is written whole, or only a prefix of it if the write fails.
 #[test]
 fn a_line_that_is_not_written(rt: HostRuntime) -> Result<(), Fail> {
     let plan = [Fault::Short { call: 1, most: 3 }, Fault::Fails { call: 2 }];
@@ -48,7 +48,8 @@ fn a_line_that_is_not_written(rt: HostRuntime) -> Result<(), Fail> {
     Ok(())
 }
 
-/// Runs the program with the words of the line, and expects what is written on `out` and nothing elsewhere.
+/// Runs the program with the words of the line, and expects `out` to receive what is written, and nothing else to be
+/// written.
 fn expect_play<R: AllocGlobal + Abort>(
     rt: &R,
     line: &str,

@@ -1,4 +1,4 @@
-//! Lines that a caller hands to a session, one by one.
+//! Lines that a caller passes to a session one by one.
 
 use memory_streams::MemSink;
 use script_runner::write_outcome;
@@ -27,7 +27,7 @@ fn a_session_answers_lines(rt: HostRuntime) -> Result<(), Fail> {
     Ok(())
 }
 
-/// A function that owns a session has one way out.
+/// A function that owns a session has a single exit.
 fn answer(alloc: Global, out: &mut MemSink) -> Result<Result<(), Failed>, AllocError> {
     let mut session = Session::new(alloc)?;
     Ok(answer_by(&mut session, out))

@@ -1,9 +1,9 @@
-//! What is told of a run that goes another way than the test says.
+//! The report on a run that differs from what the test expects.
 
 use script_checks::plain_difference;
 use std::test::Fail;
 
-/// What a run is said to write and to end with, and whether it goes another way.
+/// A run's expected output and status, and whether the run differs.
 const SAID: &[(&[u8], u8, bool)] = &[
     (b"! syntax\n", 1, false),
     (b"! syntax\n", 0, true),

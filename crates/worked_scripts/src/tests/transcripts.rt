@@ -30,8 +30,8 @@ use std::test::Fail;
 use texts::TEXTS;
 use told::TOLD;
 
-/// The rows with which each script of a table begins, and the table. A blank line stands between two transcripts: a
-/// name, and a row for each line of the script, which has the reply behind `=>`.
+/// The rows with which each script of a table begins, and the table. Transcripts are separated by a blank line: a
+/// name, then one row for each line of the script, with the reply after `=>`.
 const TABLES: [(&str, &str); 13] = [
     ("", TEXTS),
     ("", BATCHES),

@@ -1,4 +1,4 @@
-//! Words that are no command.
+//! Words that are not a command.
 
 use memory_streams::{MemSink, MemSource, SureSink};
 use script_checks::run_line;

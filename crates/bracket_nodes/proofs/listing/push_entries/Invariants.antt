@@ -1,4 +1,4 @@
--- What was listed and what is left are the entries of the whole.
+-- The listed entries followed by those left are the entries of the whole.
 use Rattle.std.proofs.Common.{◌≡◌, ◌++◌, All, length, take}
 use Rattle.bracket_tree_rules.specs.Tree.{tree_entries}
 use Rattle.bracket_nodes.specs.Seen.{seen_tree}

@@ -14,7 +14,7 @@ use Rattle.interval_deltas.proofs.accept.move_all.Goals as goal
 abbrev own : ℤ → ℤ
 own z = to_z w64 (of_z w64 z)
 
--- it starts behind an offset
+-- the found decoration starts after the offset
 starts_high : (items us : List (ℕ × KeptMark)) (id : ℕ) (m : KeptMark) (vs : List (ℕ × KeptMark)) → AreMarks items → SplitsAt items id us m vs → (z : ℤ) (offset : ℕ) → z ≡ capped offset → int_le (own m.start) (own z) ≡ false
     → capped offset <ℤ m.start
 starts_high items us id m vs values is z offset e over =

@@ -14,11 +14,11 @@ use Rattle.interval_deltas.proofs.Moving.{past_items, moved_are}
 use Rattle.interval_deltas.proofs.Untouched.{follow_still}
 use Rattle.interval_deltas.proofs.accept.shift_behind.Goals as goal
 
--- what holds of those after one of the places of that name holds after each
+-- a property of the items after one position with that name holds after each such position
 follow_at : (edit : Edit) (items : List (ℕ × KeptMark)) → HaveOwnNames items [] → (id : Option ℕ) → CanFollowAfter edit items id → AtPlace items id (λ us vs. CanFollow edit vs)
 follow_at edit items names id (ws, (zs, split, follow)) us vs s = subst (CanFollow edit) (same_after items [] names id ws zs us vs split s).1 follow
 
--- the shift takes them to where the edit moves them
+-- the shift moves them as the edit does
 shifts : (edit : Edit) (items : List (ℕ × KeptMark)) (by : ℤ) → edit.start ≤ edit.end → by ≡ pos edit.units -ℤ pos (removed edit) → AreMarks items → (us vs : List (ℕ × KeptMark)) → items ≡ us ++ vs → CanFollow edit vs
     → shifted marks by vs ≡ moved_items edit vs
 shifts edit items by up is values us vs whole follow = past_items edit by vs up is (each_right is_mark us vs (subst AreMarks whole values)) follow.1

@@ -1,14 +1,14 @@
 use Rattle.std.proofs.Common.{◌≡◌, ◌+◌, ◌-◌, false, Some, ◌∷◌, [], MatchOption, refl, ap, sym, subst, ◌∙◌, arith}
 use Rattle.std.specs.List.{All}
 use Rattle.std.specs.Option.{ForSome}
-use Rattle.piece_tree.specs.Pieces.{StandsAt, HasUnit, IsPieceOf, pieces_of, unit_count, sum_of, goes_on_from, span_of, piece_of}
+use Rattle.piece_tree.specs.Pieces.{StandsAt, HasUnit, IsPieceOf, entry_found, pieces_of, unit_count, sum_of, goes_on_from, span_of, piece_of}
 use Rattle.piece_tree.specs.Runs.{entry_at, entries_of, pieces_in}
 use Rattle.piece_tree.specs.Splicing.{IsCut, IsJoint}
 use Rattle.piece_tree.proofs.Entries.{pieces_entries}
 use Rattle.piece_tree.proofs.Cuts.{front_none}
 use Rattle.piece_tree.proofs.Sums.{sum_counts, sum_without}
 use Rattle.piece_tree.proofs.Neighbours.{last_none, last_there}
-use Rattle.piece_tree.proofs.Joints.{all_here, before_place, joint_ends, piece_found, sum_up_to, units_up_to, cut_whole, cut_inside, cut_before}
+use Rattle.piece_tree.proofs.Joints.{all_here, before_place, joint_ends, sum_up_to, units_up_to, cut_whole, cut_inside, cut_before}
 use Rattle.piece_tree.proofs.cut.first_cut.Goals as goal
 
 pub returns-in_err-last_piece : goal.returns-in_err-last_piece
@@ -45,14 +45,14 @@ part-requires-clause-inside c =
     let has : HasUnit entries found c.args.start = subst (λ a. StandsAt entries a c.args.start) c.in-Some.is c.requires.place in
     let at = has.piece in
     let all = subst (All (IsPieceOf b)) (sym (pieces_entries runs)) c.requires.pieces in
-    let is = all_here (IsPieceOf b) entries at.earlier found.id (piece_found found) at.later at.place all in is.inside
+    let is = all_here (IsPieceOf b) entries at.earlier found.id (entry_found found).piece at.later at.place all in is.inside
 
 pub returns-then-own-gt0 : goal.returns-then-own-gt0
 returns-then-own-gt0 c =
     let b = c.args.chunks.now.buffers in let entries = entries_of c.args.runs.now.runs in let found = c.in-Some.found in let own = c.args.start - found.before.units in
     let has : HasUnit entries found c.args.start = subst (λ a. StandsAt entries a c.args.start) c.in-Some.is c.requires.place in
     let at = has.piece in let start = has.start in let end = has.end in let count = ap (λ s. s.units) at.before in
-    cut_inside b entries at.earlier found.id (piece_found found) at.later c.args.start c.args.gone (span_of c.args.piece) found.before at.place at.before own c.piece_of.result
+    cut_inside b entries at.earlier found.id (entry_found found).piece at.later c.args.start c.args.gone (span_of c.args.piece) found.before at.place at.before own c.piece_of.result
     (omega (arith, count, start)) c.if-own-gt0.true (omega (arith, start, end)) (c.piece_of.ensures.piece ∙ ap (piece_of b) c.part.ensures.part) c.piece_of.ensures.counted
 
 pub cut_behind-requires-in-Some-joint-clause-units : goal.cut_behind-requires-in-Some-joint-clause-units
@@ -60,7 +60,7 @@ cut_behind-requires-in-Some-joint-clause-units c =
     let entries = entries_of c.args.runs.now.runs in let found = c.in-Some.found in let before = c.in-Some-joint.before in
     let has : HasUnit entries found c.args.start = subst (λ a. StandsAt entries a c.args.start) c.in-Some.is c.requires.place in
     let at = has.piece in
-    let (ws, last) = joint_ends at.earlier (span_of c.args.piece) c.joint.result before c.in-Some-joint.is (c.joint.ensures at.earlier at.later (piece_found found) at.place) in
+    let (ws, last) = joint_ends at.earlier (span_of c.args.piece) c.joint.result before c.in-Some-joint.is (c.joint.ensures at.earlier at.later (entry_found found).piece at.place) in
     (sum_counts (pieces_of ws) before.1 found.before (at.before ∙ sum_up_to at.earlier ws before.0 before.1 last)).0
 
 pub cut_behind-requires-in-Some-joint-clause-breaks : goal.cut_behind-requires-in-Some-joint-clause-breaks
@@ -68,13 +68,13 @@ cut_behind-requires-in-Some-joint-clause-breaks c =
     let entries = entries_of c.args.runs.now.runs in let found = c.in-Some.found in let before = c.in-Some-joint.before in
     let has : HasUnit entries found c.args.start = subst (λ a. StandsAt entries a c.args.start) c.in-Some.is c.requires.place in
     let at = has.piece in
-    let (ws, last) = joint_ends at.earlier (span_of c.args.piece) c.joint.result before c.in-Some-joint.is (c.joint.ensures at.earlier at.later (piece_found found) at.place) in
+    let (ws, last) = joint_ends at.earlier (span_of c.args.piece) c.joint.result before c.in-Some-joint.is (c.joint.ensures at.earlier at.later (entry_found found).piece at.place) in
     (sum_counts (pieces_of ws) before.1 found.before (at.before ∙ sum_up_to at.earlier ws before.0 before.1 last)).1
 
 pub returns-in-Some-joint : goal.returns-in-Some-joint
 returns-in-Some-joint c =
     let b = c.args.chunks.now.buffers in let runs = c.args.runs.now.runs in let entries = entries_of runs in let found = c.in-Some.found in let before = c.in-Some-joint.before in
-    let x = piece_found found in let y = before.1 in
+    let x = (entry_found found).piece in let y = before.1 in
     let has : HasUnit entries found c.args.start = subst (λ a. StandsAt entries a c.args.start) c.in-Some.is c.requires.place in
     let at = has.piece in let start = has.start in let end = has.end in let count = ap (λ s. s.units) at.before in
     let (ws, last) = joint_ends at.earlier (span_of c.args.piece) c.joint.result before c.in-Some-joint.is (c.joint.ensures at.earlier at.later x at.place) in
@@ -88,7 +88,7 @@ returns-in-Some-joint c =
 
 pub returns : goal.returns
 returns c =
-    let b = c.args.chunks.now.buffers in let entries = entries_of c.args.runs.now.runs in let found = c.in-Some.found in let x = piece_found found in
+    let b = c.args.chunks.now.buffers in let entries = entries_of c.args.runs.now.runs in let found = c.in-Some.found in let x = (entry_found found).piece in
     let has : HasUnit entries found c.args.start = subst (λ a. StandsAt entries a c.args.start) c.in-Some.is c.requires.place in
     let at = has.piece in let start = has.start in let end = has.end in let count = ap (λ s. s.units) at.before in
     let none : ForSome (span_of c.args.piece) (λ s. goes_on_from (pieces_of at.earlier) s ≡ false) =

@@ -14,7 +14,7 @@ the_laws : (g : Over) → LawsOf g.W.Weave
 the_laws g =
     let l = g.met.W.Weave in record { laws = l.laws; sums = l.sums; within_near = l.within_near; starts_within = l.starts_within; widens = l.widens; parts = l.parts; thins = l.thins }
 
--- what the reads told
+-- the values read
 module _ (g : Over) (c : After-read-2 g) (reach : g.row.W-By.Denot) (beside : Tree (Data g.row.W-Item.Denot g.row.W-Sum.Denot g.row.W-By.Denot)) (es : List (ℕ × g.row.W-Item.Denot)) (n : ℕ) where
   abbrev IsSeen : Type 0
   IsSeen =

@@ -33,7 +33,7 @@ visit-slot-requires g c =
     live_there t.weaving g.met.W.Weave.laws t.is_near t.turn c.args.key whole items beside c.args.tree.now.nodes.live c.args.tree.now.root l.standing l._turn (128 - l._turn) c.in-Some.id made c.in-Some.is
     (l.invariant.0 beside whole made wv le items here)
 
--- where the walk stands, once it has read the node
+-- the position of the search after it has read the node
 visit : (g : Over) (c : After-visit-slot g) (beside whole : Tree (Data g.row.W-Item.Denot g.row.W-Sum.Denot g.row.W-By.Denot)) → Made beside c.args.tree.now.nodes.live c.args.tree.now.root whole
     → Woven g.W.Weave.weaving g.W.Weave.is_near g.W.Weave.weaving.still whole → height whole ≤ 126
     → (items : List (ℕ × g.row.W-Item.Denot)) → StandsIn g.W.Weave.weaving g.W.Weave.turn c.args.key whole items c.args.from

@@ -14,7 +14,7 @@ module _ (g : Over) where
   abbrev Datum : Type 0
   Datum = Data g.row.W-Item.Denot g.row.W-Sum.Denot g.row.W-By.Denot
 
-  -- the subtree hangs there and may be levelled
+  -- the subtree hangs there, and its shifts may be applied
   abbrev Can : Links Datum → Option ℕ → g.row.W-By.Denot → ℕ → Tree Datum → Hole Datum → Tree Datum → Type 0
   Can tree at by n beside k t = CanLevel g.W.Weave.weaving g.W.Weave.is_near g.W.Weave.is_item g.W.Weave.is_value beside tree.nodes.live tree.root at by n k t
 

@@ -1,12 +1,11 @@
-use Rattle.std.proofs.Common.{ap, sym, ◌∙◌}
-use Rattle.std.specs.Char.Escape.{encode_utf16}
-use Rattle.std.specs.List.{flat_map}
-use Rattle.std.proofs.lemmas.Iterator.{YieldsList-from_chars}
-use Rattle.std.proofs.lemmas.Iterator.Consumers.{YieldsList-end}
-use Rattle.std.proofs.lemmas.List.{map-id}
+use Rattle.std.proofs.Common.{◌≡◌, ◌++◌, length, sym, ap, ◌∙◌, rules}
+use Rattle.std.proofs.lemmas.List.{append-nil, nil_from_length}
+use Rattle.unit_text.specs.Text.{units_of}
+use Rattle.unit_text.proofs.Fronts.{units_of_nil}
 use Rattle.unit_text.proofs.utf8.push_units.Goals as goal
 
 pub returns-clause-ok : goal.returns-clause-ok
 returns-clause-ok c =
-    let e = YieldsList-end (YieldsList-from_chars c.args.text.now c.utf8.text cc) c.loop-c.yielded _ c.loop-c.yielded_by _ _ c.in-None.is c.next.ensures.steps in
-    cc (c.loop-c.invariant.text, ap (flat_map encode_utf16) (sym (map-id c.loop-c.yielded) ∙ e.0))
+    let empty : length c.loop-rest.rest.now ≡ 0 = search rules in
+    let none = ap units_of (nil_from_length c.loop-rest.rest.now empty) ∙ units_of_nil in
+    sym (append-nil c.loop-rest.out.items) ∙ ap (λ units. c.loop-rest.out.items ++ units) (sym none) ∙ c.loop-rest.invariant.text

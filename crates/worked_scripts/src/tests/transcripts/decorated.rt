@@ -1,4 +1,4 @@
-//! Decorations, as the text under them is edited.
+//! Decorations while the text under them is edited.
 
 /// One decoration of each mode.
 pub const FOUR_MODES: &str = r#"
@@ -9,7 +9,7 @@ pub const FOUR_MODES: &str = r#"
 {"cmd":"decorate","owner":1,"remove":[],"add":[{"at":[2,5],"stick":3}]} => ok 4 1
 "#;
 
-/// What becomes of them.
+/// How edits change the decorations of `FOUR_MODES`.
 pub const EACH_MODE: &str = r#"
 each mode at its start
 {"cmd":"edit","ops":[{"at":[2,2],"text":"xyz"}]} => ok 2 11 1

@@ -1,4 +1,4 @@
-//! Documents of a kind of line ending.
+//! Documents with a kind of line ending.
 
 pub const ENDINGS: &str = r#"
 lf becomes cr lf and is had back

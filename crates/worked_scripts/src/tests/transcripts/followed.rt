@@ -1,4 +1,4 @@
-//! A mirror, and the events that are sent to it.
+//! A mirror and the events sent to it.
 
 pub const FOLLOWED: &str = r#"
 events come in another order, and again

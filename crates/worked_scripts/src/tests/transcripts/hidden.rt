@@ -1,4 +1,4 @@
-//! Brackets that comments and strings hide.
+//! Brackets hidden by comments and strings.
 
 pub const HIDDEN: &str = r#"
 a comment over two lines, and an edit that takes its beginning away

@@ -1,4 +1,4 @@
-//! Edits of several documents at once, and their steps.
+//! Edits of several documents at once, and their history steps.
 
 pub const JOINED: &str = r#"
 a joint edit is undone and made again in both documents, until one can no longer make it again

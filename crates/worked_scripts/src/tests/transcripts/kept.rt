@@ -1,4 +1,4 @@
-//! Snapshots that are read while the text is edited, and where a cursor may stop.
+//! Snapshots read while the text is edited, and the stops of a cursor.
 
 pub const KEPT: &str = r#"
 a snapshot is read and closed

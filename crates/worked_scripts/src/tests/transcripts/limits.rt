@@ -1,7 +1,7 @@
 //! Fields at their limits and one past them.
 
-/// A number is below 2^64, a mode at most 3, a count of units to read at least 2; a table of brackets has at most 64
-/// pairs, of texts of at most 32 units.
+/// A number is below 2^64, a mode at most 3, and the count of units to read at least 2. A table of brackets has at
+/// most 64 pairs, whose texts have at most 32 units.
 pub const LIMITS: &str = r#"
 numbers of a text
 {"cmd":"open","text":"ab"} => ok 1 2 1

@@ -1,4 +1,4 @@
-//! Brackets, as the text is edited.
+//! Brackets while the text is edited.
 
 pub const NESTED: &str = r#"
 a bracket that an edit pairs

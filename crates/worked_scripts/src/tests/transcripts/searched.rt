@@ -1,4 +1,4 @@
-//! Texts that are found, and replaces of all that is found.
+//! Searches, and replacements of all matches.
 
 pub const SEARCHED: &str = r#"
 what is found does not overlap, and all of it is replaced

@@ -1,4 +1,4 @@
-//! Texts, their edits, lines and positions, and lines that are no commands.
+//! Texts, their edits, lines and positions, and lines that are not commands.
 
 pub const TEXTS: &str = r#"
 an edit over a break

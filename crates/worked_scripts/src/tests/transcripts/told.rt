@@ -1,4 +1,4 @@
-//! What the last change did, as edits that are carried out one after another.
+//! The effect of the last change, as a sequence of edits.
 
 pub const TOLD: &str = r#"
 a batch is told from its last op to its first

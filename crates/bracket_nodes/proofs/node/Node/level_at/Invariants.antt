@@ -1,4 +1,4 @@
--- The level at the node that was reached is the level in the whole.
+-- The level in the node reached is the level in the whole tree.
 use Rattle.std.proofs.Common.{◌≡◌}
 use Rattle.bracket_tree_rules.specs.Tree.{tree_level}
 use Rattle.bracket_nodes.specs.Seen.{seen_tree}

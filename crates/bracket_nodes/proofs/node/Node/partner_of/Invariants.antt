@@ -1,4 +1,4 @@
--- The partner at the node that was reached is the partner in the whole.
+-- The partner found in the node reached is the partner in the whole tree.
 use Rattle.std.proofs.Common.{◌+◌, ◌<◌, ◌^◌}
 use Rattle.bracket_tree_rules.specs.Tree.{weight, IsTree}
 use Rattle.bracket_nodes.specs.Seen.{seen_tree}

@@ -1,4 +1,4 @@
--- What is left of the path still leads down from the root.
+-- The rest of the path still leads down from the root.
 use Rattle.std.proofs.Common.{◌≡◌, All, vec_len}
 use Rattle.bracket_nodes.specs.Forms.{IsSound}
 use Rattle.bracket_nodes.specs.Paths.{IsOnPath}

@@ -1,4 +1,4 @@
--- What is found at the node that was reached is what is found in the whole.
+-- The bracket found in the node reached is the one found in the whole tree.
 use Rattle.std.proofs.Common.{◌≡◌}
 use Rattle.bracket_tree_rules.specs.Parts.{ShowsBrackets}
 use Rattle.bracket_nodes.specs.Paths.{IsOnPath}

@@ -4,7 +4,7 @@ use Rattle.bracket_nodes.specs.Paths.{IsOnPath}
 use Rattle.bracket_nodes.specs.Seen.{seen_tree}
 use Rattle.bracket_nodes.proofs.reader.NodeReader.keep.Goals as goal
 
--- with memory for it or without
+-- whether or not there is memory for it
 pushed : {X : Type 0} (P : X → Type 0) (b : Bool) (xs : List X) (x : X) → All P xs → P x → All P (cond b (xs ++ x ∷ []) xs)
 pushed P true xs x all here = All-push P xs x all here
 pushed P false xs x all here = all

@@ -24,7 +24,7 @@ longest_among-requires c =
     rw (in_bucket c, c.deref.ensures.value)
     (starts_in-kinds (get_or c.args.units.now 0 0 % BUCKETS) c.in-Listed.pairs.items)
 
--- the answer is the table's longest text, so it has units, and no more than are there
+-- the result is the longest text of the table, so it has at least one unit and at most all units there
 answer : (at : ℕ) (table : Table) (units : List ℕ) (found : Option Token) → is_table table ≡ true → found ≡ longest at 0 table units
     → IfSome found (IsWithin (length units))
 answer at table units found h e = rw e (longest-within at table units h)

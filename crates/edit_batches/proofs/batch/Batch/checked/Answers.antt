@@ -7,7 +7,7 @@ use Rattle.batch_rules.proofs.Answers.{refused_for_range, refused_for_overlap, r
 use Rattle.batch_rules.proofs.Standing.{all_good, stand_from_start, follow_standing, text_units_applied}
 use Rattle.edit_batches.proofs.batch.Batch.checked.Goals as goal
 
--- the answer of the rule, by the tests of the ops in their order
+-- the result of the rule, from the tests of the sorted ops
 module _ (kind : Kind) (x : List ℕ) (ops taken : List Op) (made : ops ≡ ops_in kind taken) (in_order : sorted_ops taken ≡ taken) where
   same : ops ≡ sorted_ops ops
   same = made ∙ ap (ops_in kind) (sym in_order) ∙ sorted_ops-ops_in kind taken ∙ ap sorted_ops (sym made)

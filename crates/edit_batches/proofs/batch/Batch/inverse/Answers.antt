@@ -5,7 +5,7 @@ use Rattle.batch_rules.proofs.Standing.{follow_standing, text_units_inverse}
 use Rattle.batch_rules.proofs.Inverses.{inverse_stands_from_start, inverse_takes_back}
 use Rattle.edit_batches.proofs.batch.Batch.inverse.Goals as goal
 
--- what is known of the ops that take back ops that stand in a text
+-- the properties of the inverse of ops that stand in a text
 record TakesBack (x : List ℕ) (ops back : List Op) : Type 0 where
   standing : StandFrom 0 (applied_from 0 x ops) back
   gives : applied (applied x ops) back ≡ x

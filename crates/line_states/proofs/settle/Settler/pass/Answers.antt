@@ -13,7 +13,7 @@ use Rattle.line_states.proofs.settle.Settler.pass.Given.{Over}
 use Rattle.line_states.proofs.settle.Settler.pass.Goals.{After-stays}
 use Rattle.line_states.proofs.settle.Settler.pass.Goals as goal
 
--- the kept lines that are next
+-- the kept lines to be passed next
 run_ahead : (g : Over) (c : After-stays g) (first : ℕ) → IsKeptAs c.args.self.now.last first c.args.walk.now.state c.at-mark.result.0
     → RunAhead c.args.self.now (g.Q.Lines.state c.args.lines.now) c.args.walk.now first c.at-mark.result.1
 run_ahead g c first kept =
@@ -32,7 +32,7 @@ run_ahead g c first kept =
       begins = kept.begins;
     }
 
--- the line that is next
+-- the line to be passed next
 line_ahead : (g : Over) (c : After-stays g) → is_scanned (known_of c.args.self.now.last c.at-mark.result.0) c.args.walk.now.state ≡ true
     → LineAhead c.args.self.now (g.Q.Lines.state c.args.lines.now) c.args.walk.now
 line_ahead g c scanned =
@@ -59,7 +59,7 @@ returns-in-Some-clause-on g c =
     (λ (kept : HasKept c.args.self.now.last c.args.walk.now c.keep.new.walk c.in-Some.first c.at-mark.result.1). passes_run next c.keep.new.walk kept)
     c.keep.ensures
 
--- it asked for none
+-- no line was asked for
 none_asked : {T E : Type 0} (r : Result T E) (lines asked : List ℕ) → OnErr r (AsksFront lines asked asked)
 none_asked (Ok x) lines asked = tt
 none_asked (Err e) lines asked = (lines, refl)

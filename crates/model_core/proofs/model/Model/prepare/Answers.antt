@@ -38,13 +38,13 @@ taken c = grind (arith, common_steps)
 changed : (c : After-reserve) → c.in_ok-change.change ≡ Ops c.in_ok-batch.batch (inverse_from 0 0 c.seek.new.self.text.units c.in_ok-batch.batch)
 changed c = grind (arith, common_steps)
 
-pub need_of-requires : goal.need_of-requires
-need_of-requires c =
+pub need_of-need-requires : goal.need_of-need-requires
+need_of-need-requires c =
     let x = c.seek.new.self.text in
     let rule = accepted_of_all (flat_text x) c.args.ops.items c.in_ok-ops.ops c.in_ok-batch.batch c.checked.result
-    (sorted_at (goal.at.need_of-requires c).After-checked) (told (goal.at.need_of-requires c).After-checked) (taken (goal.at.need_of-requires c).After-raised) in
+    (sorted_at (goal.at.need_of-need-requires c).After-checked) (told (goal.at.need_of-need-requires c).After-checked) (taken (goal.at.need_of-need-requires c).After-raised) in
     let ok = accepted x.kind x.units (ops_in x.kind c.args.ops.items) c.in_ok-batch.batch rule in
-    let is = changed (goal.at.need_of-requires c).After-reserve in
+    let is = changed (goal.at.need_of-need-requires c).After-reserve in
     rw is (omega (arith, text_units_applied 0 x.units c.in_ok-batch.batch ok.standing, ok.fits))
 
 pub invariant_of-self-in_err-map_err-2 : goal.invariant_of-self-in_err-map_err-2
@@ -93,7 +93,7 @@ returns-clause-ready c =
     let rule = accepted_of_all (flat_text x) c.args.ops.items c.in_ok-ops.ops c.in_ok-batch.batch c.checked.result
     (sorted_at (goal.at.returns-clause-ready c).After-checked) (told (goal.at.returns-clause-ready c).After-checked) (taken (goal.at.returns-clause-ready c).After-raised) in
     let is = changed (goal.at.returns-clause-ready c).After-reserve in
-    let need : c.need_of.result ≡ need_of_ops sorted = c.need_of.ensures ∙ ap (λ (change : Change). need_of_ops (ops_by On change)) is in
+    let need : c.need_of-need.result ≡ need_of_ops sorted = c.need_of-need.ensures ∙ ap (λ (change : Change). need_of_ops (ops_by On change)) is in
     let next : c.in_ok-next.next ≡ m.version + 1 = grind (arith, common_steps) in
     let last : c.in_ok-next.next ≤ greatest_version = grind (arith, common_steps) in
     edit_ready _ c.args.ops.items sorted (inverse_from 0 0 x.units sorted) c.making.result (rw (text, kind) rule) (rw text refl)

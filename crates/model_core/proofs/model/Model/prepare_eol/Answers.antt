@@ -63,7 +63,7 @@ returns-clause-ready c =
     grind (arith, common_steps) in
     let fits : length recast.after ≤ most_units = grind (arith, common_steps) in
     let placed : c.in_ok-placed.placed ≡ recast = grind (arith, common_steps) in
-    let need : c.need_of.result ≡ need_of_ops (ops_by On (Endings recast)) = c.need_of.ensures ∙ ap (λ (r : RecastState). need_of_ops (ops_by On (Endings r))) placed in
+    let need : c.need_of-need.result ≡ need_of_ops (ops_by On (Endings recast)) = c.need_of-need.ensures ∙ ap (λ (r : RecastState). need_of_ops (ops_by On (Endings r))) placed in
     eol_ready _ kind recast c.making.result (rw same.kind other) (rw (same.units, same.kind) is)
     (rw same.units (omega (arith, fits, ap (λ (r : RecastState). length r.after) is)))
     (c.making.ensures.action ∙ ap (λ (r : RecastState). Make (Endings r)) placed) (omega (arith, next, c.making.ensures.version)) (grind (arith, common_steps)) (omega (arith, next, last))

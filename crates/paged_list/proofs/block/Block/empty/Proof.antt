@@ -1,4 +1,4 @@
--- `empty` reads the value, and what is left of it is room. Assumes `Logic`.
+-- `empty` reads the value, and the slot is room afterwards. Assumes `Logic`.
 use Rattle.paged_list.proofs.Steps.{◌≡◌, ℕ, ◌+◌, ◌*◌, List, [], ◌∷◌, ◌++◌, length, get_or, set, Option, Some, None, refl, w64, ftrue, fat, flft, froom, full_share, SProp, emp, part_out, ◌⊑◌, fact, fact_i, tables, usize, yes, layout, owns, mut_Tells, plain, types_at, heard, Goes-dropped, Goes-ref, Stays, stay_dropped, stay_ref, walk_of, inst_fn, Fn, named, Val, vint, vptr, WpFn, alloc_all, env, free_all, get, look_at, pass_all, sets, sets_last, through, at_ret, by, drop, fjoin, fsplit, fsplit3, join, keep, move, pick, prop, qed, raw, regoal, rewrite, some, split, use0, use1, ‵, ◌⊛◌, ◌$◌, ◌∵◌, !, look_in, sub, all_of, bin, blocks, enter, exec, first, fld, load, look, of_opd, returns, size_lit, stop, well_typed, after, leaves, proved_at}
 use Rattle.paged_list.specs.Slots.{IsFilled}
 use Rattle.paged_list.proofs.Behind.{Given, Blk, Chosen, Thing, args, begun, closes_at, lent_still, opens_at, spends, width, with_slot}

@@ -1,4 +1,4 @@
--- `free` makes the row of slots one block again, and gives it back. Assumes `Logic`.
+-- `free` joins the row of slots into one block again and returns it to the allocator. Assumes `Logic`.
 use Rattle.paged_list.proofs.Steps.{◌≡◌, ℕ, ◌*◌, ◌<◌, ◌^◌, List, [], ◌∷◌, ◌++◌, length, refl, ap, subst, ◌∙◌, arith, w64, ftrue, flft, froom, SProp, id⊢, ◌⊑◌, ⊑_trans, fact, tables, RefOf, usize, no, yes, layout, owns, Ptr, block_ptr, Slot, plain, types_at, heard, nothing, calls_at_last, framed, Goes-dropped, Stays, stay_dropped, walk_of, inst_fn, Fn, place, Val, vint, vptr, vunit, capped_fits, align, capped, WpFn, after_block, alloc_all, env, free_all, get, get_in, lands_last, look_at, pass_all, sets, any_q, at_ret, await, by, drop, feq_i, fsplit, given, join, keep, later, learn, move, post, prop, qed, raw, regoal, rewrite, settles, split, use1, use3, ‵, ◌⊛◌, ◌$◌, ◌∵◌, !, sub, all_of, align_word, and_then, bin, blocks, enter, exec, first, fld, no_more, of_opd, returns, size_lit, stop, unit_lit, Al, Gives, Gives-Gives, Gives-goes, Goes-blank, at_gives, seen, after, leaves, proved_at}
 use Rattle.paged_list.proofs.Behind.{Ending, Given, Blk, Lender, Right, args, begun, goes_on, held, opened, spends, width}
 use Rattle.paged_list.proofs.Carving.{Cut, aligned, bytes, smoothed}

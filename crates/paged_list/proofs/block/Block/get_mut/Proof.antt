@@ -1,4 +1,4 @@
--- `get_mut` lends the value, and the block follows what is written there. Assumes `Logic`.
+-- `get_mut` lends the value, and the block has the value written there afterwards. Assumes `Logic`.
 use Rattle.paged_list.proofs.Steps.{◌≡◌, ℕ, ◌+◌, ◌*◌, List, [], ◌∷◌, ◌++◌, length, get_or, Option, Some, None, MutBor, refl, w64, GName, ftrue, flft, SProp, emp, id⊢, ◌⊑◌, fact, fact_i, tables, usize, no, yes, Part, follows, lends_Part, owns, MutRef, mut_Tells, mut_ref_to, plain, types_at, heard, Goes-dropped, Goes-spent_ref, Stays, stay_dropped, walk_of, inst_fn, Fn, named, Val, vint, vptr, WpFn, alloc_all, env, free_all, get, look_at, pass_all, sets, sets_last, through, at_ret, await, by, drop, fjoin, fsplit, fsplit3, group, join, keep, later, move, pick, prop, qed, raw, regoal, rewrite, some, split3, use0, use1, ‵, ◌⊛◌, ◌$◌, ◌∵◌, !, sem, look_in, sub, all_of, addr, bin, blocks, enter, exec, first, fld, load, of_opd, returns, size_lit, stop, after, leaves, proved_at}
 use Rattle.paged_list.specs.SlotLends.{with_value}
 use Rattle.paged_list.specs.Slots.{IsFilled}

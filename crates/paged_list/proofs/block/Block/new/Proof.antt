@@ -1,4 +1,4 @@
--- `new` has a block allocated, and cuts it into empty slots. Assumes `Logic`.
+-- `new` allocates a block and cuts it into empty slots. Assumes `Logic`.
 use Rattle.paged_list.proofs.Steps.{◌≡◌, ℕ, ◌*◌, ◌<◌, ◌^◌, List, [], ◌∷◌, ◌++◌, replicate, None, Ok, Err, IfOk, true, false, refl, sym, arith, lit<, w64, FitsInBlock, ftrue, flft, SProp, emp, ◌⊑◌, ⊑_trans, fact, fact_i, tables, RefOf, usize, yes, layout, RattleType, owns, Ptr, block_ptr, makes_shadow, Slot, plain, type_at, types_at, heard, shape, to, Struct, calls_at, framed, Goes-dropped, Stays, stay_dropped, walk_of, inst_fn, Fn, Val, vcons, vint, vnil, vptr, vstruct, capped_fits, align, capped, WpFn, alloc_all, env, free_all, get, get_in, get_tag, lands_as, look_at, pass_all, sets, sets_last, at_ret, await, by, drop, fjoin, fsplit, join, keep, later, move, prop, qed, raw, regoal, split, use0, use1, use2, ‵, ◌⊛◌, ◌$◌, ◌∵◌, !, in_variant, live, vrt, agg, all_of, align_word, and_then, bin, enter, exec, first, fld, lit, no_more, of_opd, returns, size_lit, stop, switches_on, Al, Answer-typed, Answered, Takes, Takes-gives, Takes-goes, answers, at_takes, after, arm_body, head, Good, length-replicate, leaves, proved_at, err_of, ok_of}
 use Rattle.std.specs.contracts.alloc.AllocError as refusal
 use Rattle.paged_list.proofs.Behind.{Ending, Given, Blk, Lender, Parts, Slots, Thing, args, begun, fields, goes_on, held, spends, whole, width}

@@ -7,8 +7,8 @@ use Rattle.piece_tree.proofs.tree.PieceTree.breaks.Goals as goal
 
 pub returns-clause-sum : goal.returns-clause-sum
 returns-clause-sum c =
-    ap (λ s. s.breaks) c.self.invariant.sum ∙ ap break_count_of (pieces_shown c.self.inside.runs.runs c.args.self.now.entries (ap (λ v. v.entries) c.self.view_is))
+    ap (λ s. s.breaks) c.sum.ensures.sum ∙ ap break_count_of (pieces_shown c.self.inside.runs.runs c.args.self.now.entries (ap (λ v. v.entries) c.self.view_is))
 
 pub returns-clause-small : goal.returns-clause-small
 returns-clause-small c =
-    omega (arith, ap (λ s. s.breaks) c.self.invariant.sum, breaks_few (pieces_in c.self.inside.runs.runs) c.self.invariant.few, c.self.invariant.small)
+    omega (arith, ap (λ s. s.breaks) c.sum.ensures.sum, breaks_few (pieces_in c.self.inside.runs.runs) c.self.invariant.few, c.self.invariant.small)

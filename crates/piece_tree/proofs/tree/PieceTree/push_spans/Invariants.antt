@@ -1,10 +1,9 @@
 use Rattle.std.proofs.Common.{◌≡◌, ◌++◌, map, length}
-use Rattle.rb_arena.specs.Items.{BeginsWith}
-use Rattle.piece_tree.specs.Pieces.{pieces_of}
+use Rattle.piece_tree.specs.Pieces.{pieces_of, BeginsWith}
 use Rattle.piece_tree.specs.Runs.{pieces_in}
 use Rattle.piece_tree.proofs.tree.PieceTree.push_spans.Given as goal
 
--- the spans of the pieces of the runs so far have come
+-- the spans of the pieces of the runs so far were appended
 abbrev pub invariant-loop-pieces : goal.invariant-loop-pieces
 invariant-loop-pieces l = record {
   begins : BeginsWith l.fn.out.items l.out.items;

@@ -31,7 +31,6 @@ invariant_of-self c =
     let units = ap unit_count same in
     let all = subst (All (IsPieceOf b)) same c.requires.pieces in
     let order : pieces_in c.replace_units-first.new.runs.runs ≡ spliced b c.args.offset end (span_of c.args.piece) ps = c.replace_units-first.ensures.spliced in record {
-      sum = c.sum-self-inside.ensures.sum;
       small = omega (
         arith,
         ap unit_count order,

@@ -4,7 +4,7 @@ use Rattle.piece_tree.proofs.tree.walking.PieceWalk.next.Given.{Over}
 use Rattle.piece_tree.proofs.tree.walking.PieceWalk.next.Goals.{In_ok-run, then-is_none+in-Some, else-is_none}
 use Rattle.piece_tree.proofs.tree.walking.PieceWalk.next.Goals as goal
 
--- the walk stands in a run, whether it came to it now or before
+-- the walk has a current run, whether from this call or an earlier one
 stands : (g : Over) (c : In_ok-run g) → StandsIn c.if-is_none.self-inside.pieces.now c.if-is_none.self-inside.place c.if-is_none.self-inside.behind.left
 stands g c =
     let was = c.self.inside in
