@@ -112,14 +112,6 @@ impl Batch {
         Batch::of_one(alloc, Span { start: 0, end: len }, units, false)
     }
 
-    /// Returns a copy of the batch and of its texts.
-    pub fn copied(&self, alloc: Global) -> Result<Batch, AllocError>
-        ensures { IfOk result (λ b. b ≡ self.now) }
-    {
-        let ops = copies_of(alloc, &self.ops)?;
-        Ok(Batch { ops })
-    }
-
     /// Returns the length after the batch of a text of `len` units; None if an edit ends above `len`, or the new text would have more units
     /// than a text may have.
     pub fn length_after(&self, len: u64) -> Option<u64>
@@ -138,18 +130,4 @@ pub fn one_op(alloc: Global, span: Span, units: &[u16], force: bool) -> Result<V
     let mut ops = Vec::with_capacity(alloc, 1)?;
     ops.push(Op { span, text, force })?;
     Ok(ops)
-}
-
-fn copies_of(alloc: Global, ops: &[Op]) -> Result<Vec<Op>, AllocError>
-    ensures { IfOk result (λ copies. copies.items ≡ ops.now) }
-{
-    let mut copies = Vec::with_capacity(alloc, ops.len())?;
-    for op in ops {
-        copies.push(Op {
-            span: op.span,
-            text: Units::copy_of(alloc, op.text.as_slice())?,
-            force: op.force,
-        })?;
-    }
-    Ok(copies)
 }

@@ -3,7 +3,7 @@
 ghost use Rattle.std.specs.Prelude.{◌≡◌, ◌<◌};
 ghost use Rattle.text_lengths.specs.declared.TheConstants.{GREATEST_NUMBER};
 
-use crate::batch::Batch;
+use crate::shared::SharedBatch;
 use std::marker::Model;
 
 /// A change of a text: the version before it, which is below `GREATEST_NUMBER`, and the batches that were applied, in order. An undo or a
@@ -11,7 +11,7 @@ use std::marker::Model;
 #[derive(Drop)]
 pub struct Event {
     from: u64,
-    batches: Vec<Batch>,
+    batches: Vec<SharedBatch>,
 }
 
 impl Model for Event {
@@ -27,7 +27,7 @@ impl Model for Event {
 }
 
 impl Event {
-    pub fn new(from: u64, batches: Vec<Batch>) -> Event
+    pub fn new(from: u64, batches: Vec<SharedBatch>) -> Event
         requires { from < GREATEST_NUMBER }
         ensures from { result.from ≡ from }
         ensures batches { result.batches ≡ batches.items }
@@ -44,7 +44,7 @@ impl Event {
     }
 
     /// Returns the batches in the order in which they were applied.
-    pub fn batches(&self) -> &[Batch]
+    pub fn batches(&self) -> &[SharedBatch]
         ensures { result.now ≡ self.now.batches }
     {
         self.batches.as_slice()

@@ -7,7 +7,7 @@ ghost use Rattle.batch_rules.specs.Events.{first_misfit, after_batches};
 ghost use Rattle.mirror_rules.specs.Mirrors.{taken};
 ghost use Rattle.mirror_model.specs.Outcomes.{Takes};
 
-use edit_batches::{Batch, Event};
+use edit_batches::{Event, SharedBatch};
 use mirror_rules::MirrorError;
 use std::alloc::{AllocError, Global};
 use std::marker::Model;
@@ -100,7 +100,7 @@ impl Mirror {
     }
 
     // Carries out batches that fit. Reserves all room before the first change. Pieces of few units may be rewritten then.
-    fn carry_out(&mut self, batches: &[Batch]) -> Result<(), AllocError>
+    fn carry_out(&mut self, batches: &[SharedBatch]) -> Result<(), AllocError>
         requires { first_misfit self.old.units batches.now ≡ None }
         ensures version { self.new.version ≡ self.old.version }
         ensures done { OnOk result (self.new.units ≡ after_batches self.old.units batches.now) }
@@ -109,7 +109,7 @@ impl Mirror {
         let need = need_of_batches(batches)?;
         self.text.reserve(need)?;
         for batch in batches {
-            apply_to_text(&mut self.text, batch.ops());
+            apply_to_text(&mut self.text, batch.batch().ops());
         }
         self.text.rewrite_crowded();
         Ok(())
@@ -117,14 +117,14 @@ impl Mirror {
 }
 
 // Returns the number of the first batch that does not fit a text of this length, counted from 1.
-fn first_misfit(len: u64, batches: &[Batch]) -> Option<u64>
+fn first_misfit(len: u64, batches: &[SharedBatch]) -> Option<u64>
     ensures { (x : List ℕ) → length x ≡ len → result ≡ first_misfit x batches.now }
 {
     let mut len = len;
     let mut number = 0;
     for batch in batches {
         number += 1;
-        match batch.length_after(len) {
+        match batch.batch().length_after(len) {
             Some(after) => len = after,
             None => return Some(number),
         }

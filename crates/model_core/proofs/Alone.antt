@@ -7,6 +7,8 @@ use Rattle.model_core.specs.declared.ready.Action.{Action}
 use Rattle.model_core.specs.declared.ready.Action.TheVariants.{Make, Move}
 use Rattle.model_core.specs.Prepared.{Prepared, CanCommit, Acts, ActsAlone, HasActed, Need, need_of, marks_after, marking_count}
 use Rattle.model_core.specs.State.{ModelState, KeepsParse}
+use Rattle.model_core.specs.Compact.{KeepsBoundBy}
+use Rattle.model_core.proofs.Held.{bound_from, bound_until}
 use Rattle.model_core.proofs.Leaving.{leaves_from, leaves_until, leaves_as}
 use Rattle.model_core.proofs.Preparing.{IsSameText, can_still_commit}
 
@@ -49,4 +51,10 @@ module _ (old closed made new : ModelState) (action : Action) (first : closed.do
       let marks = ap (λ f. marks_after action f closed.marks) first ∙ same_marks action f closed.marks ∙ ap (marks_after action f) kept.marks in
       leaves_until _ _ _ old made new
       (leaves_from _ _ _ old closed made kept (leaves_as _ (need_of action f).text.edits _ (marking_count action f) _ (marks_after action f old.marks) closed made edits marking marks acted))
+      left
+
+  pub bound_alone : KeepsBoundBy action closed made → KeepsBoundBy action old new
+  bound_alone bound =
+      bound_until action old made new (ap (λ (f : FlatState). f.units) last)
+      (bound_from action old closed made (ap (need_of action) first ∙ same_need action old.document) (ap (λ (f : FlatState). f.units) first) kept bound)
       left

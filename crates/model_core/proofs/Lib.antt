@@ -1,5 +1,6 @@
 pub mod Leaving
 pub mod LineLemmas
+pub mod Held
 pub mod Histories
 pub mod Tags
 pub mod Retagging

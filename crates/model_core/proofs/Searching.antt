@@ -1,5 +1,5 @@
 -- A replace of all that is found: prepared as an edit, and carried out as a step of undo of its own.
-use Rattle.std.proofs.Common.{◌≡◌, ◌<◌, ℕ, true, List, length, Ok, Some, refl, ap, sym, subst, ◌∙◌, arith}
+use Rattle.std.proofs.Common.{◌≡◌, ◌<◌, ℕ, true, List, length, Ok, Some, refl, ap, sym, subst, ◌∙◌}
 use Rattle.batch_rules.specs.Batches.{checked_batch}
 use Rattle.text_rules.specs.declared.Op.{Op}
 use Rattle.document_rules.specs.declared.ModelError.{ModelError}
@@ -11,7 +11,7 @@ use Rattle.search_rules.specs.Replacing.{flat_replace_all}
 use Rattle.search_rules.proofs.Replacing.{replace_refusal, made_as_edit, refused_as_edit}
 use Rattle.model_page.specs.LineMarks.{marked_backwards}
 use Rattle.model_core.specs.Edited.{ops_as_done}
-use Rattle.model_core.specs.Prepared.{Prepared, Acts, ActsAlone, HasActed, batch_of}
+use Rattle.model_core.specs.Prepared.{Prepared, Acts, ActsAlone, HasActed}
 use Rattle.model_core.specs.Replaced.{IsForRoom, replacing_ops, HasReplaced, IsReplaceReady}
 use Rattle.model_core.specs.State.{ModelState, KeepsParse}
 use Rattle.model_core.proofs.Leaving.{leaves_from, leaves_as}

@@ -10,7 +10,7 @@ use Rattle.document_rules.specs.Document.{FlatText, FlatChange}
 use Rattle.model_page.specs.declared.change.Change.{Change}
 use Rattle.model_page.specs.declared.change.Way.{Way}
 use Rattle.model_page.specs.declared.change.Way.TheVariants.{Back, On}
-use Rattle.model_page.specs.Changes.{text_back, text_on, changes_back, changes_on}
+use Rattle.model_page.specs.Changes.{text_back, text_on, changes_back}
 use Rattle.model_core.specs.History.{step_with, undo_steps, redo_steps, history_of}
 use Rattle.model_core.specs.Ways.{next_steps}
 

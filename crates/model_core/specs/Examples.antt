@@ -1,5 +1,5 @@
 -- Worked examples of the definitions.
-use Rattle.std.specs.Prelude.{◌≡◌, ℕ, List, [], ◌∷◌, None, codes, false, refl}
+use Rattle.std.specs.Prelude.{◌≡◌, ◌+◌, ℕ, List, [], ◌∷◌, None, codes, true, false, refl}
 use Rattle.std.proofs.Common.{arith}
 use Rattle.unit_text.specs.declared.kind.Kind.TheVariants.{Mixed, Lf}
 use Rattle.text_rules.specs.declared.Op.{Op}
@@ -13,6 +13,8 @@ use Rattle.model_page.specs.declared.change.Change.{Change}
 use Rattle.model_page.specs.declared.change.Way.TheVariants.{Back, On}
 use Rattle.model_core.specs.declared.ready.Action.TheVariants.{Make}
 use Rattle.model_core.specs.State.{Room, ModelState}
+use Rattle.model_page.specs.Compact.{outgrows}
+use Rattle.model_core.specs.Compact.{most_held_after, KeepsBound}
 use Rattle.model_core.specs.Prepared.{Need, CanCommit, IsEnough, next_op_count, next_marking_count, next_unit_count, next_break_count}
 use Rattle.model_page.specs.declared.change.Change.TheVariants.{Ops}
 
@@ -122,6 +124,7 @@ six_letters = record {
   fresh = false;
   pieces = 1;
   held = 6;
+  overfull = false;
   room = record { text = record { edits = 1; units = 66; breaks = 2 }; marks = 1; changes = 1 };
 }
 
@@ -129,7 +132,7 @@ six_letters = record {
 abbrev two_by_one : Change
 two_by_one = Ops (replace 2 4 (codes "x") ∷ []) (replace 2 3 (codes "cd") ∷ [])
 
-two_units_make_way_for_one : CanCommit six_letters (record { version = 1; kind = Mixed; action = Make two_by_one })
+two_units_make_way_for_one : CanCommit six_letters (record { version = 1; kind = Mixed; action = Make two_by_one; room = None })
 two_units_make_way_for_one = record {
   version = refl;
   kind = refl;
@@ -140,3 +143,26 @@ two_units_make_way_for_one = record {
     changes = omega arith;
   };
 }
+
+-- ---- the buffers
+
+-- three times six units and 2^15 are 32786
+no_more_than_that : outgrows 6 32786 ≡ false
+no_more_than_that = refl
+
+one_unit_more : outgrows 6 32787 ≡ true
+one_unit_more = refl
+
+-- six units before, five after, and an edit that puts in one
+after_an_edit : most_held_after 6 5 1 1 ≡ 18 + 5 + 9 + 65536
+after_an_edit = refl
+
+-- the same document with buffers that hold this many units
+abbrev holding : ℕ → ModelState
+holding units = record six_letters { held = units }
+
+a_text_is_not_rewritten_for_nothing : KeepsBound 1 1 (holding 20) (holding 7) → ⊥
+a_text_is_not_rewritten_for_nothing keeps = let due : false ≡ true = keeps.paid (omega arith) in cc
+
+it_is_rewritten_in_time : KeepsBound 1 1 (holding 20) (holding 65600) → ⊥
+it_is_rewritten_in_time keeps = omega (arith, keeps.bound refl)

@@ -23,6 +23,7 @@ use Rattle.text_buffer.specs.declared.room.Need as text_need
 use Rattle.model_core.specs.Ways.{next_steps, flat_move}
 use Rattle.model_core.specs.Edited.{ops_as_done}
 use Rattle.model_page.specs.declared.change.Change.TheVariants.{Ops, Endings}
+use Rattle.model_page.specs.Compact.{MostFitting}
 use Rattle.model_page.specs.Changes.{text_from, text_to, ops_by}
 use Rattle.model_page.specs.Counts.{marking_ops}
 use Rattle.model_page.specs.LineMarks.{marks_over, marked_step}
@@ -33,6 +34,8 @@ pub record Prepared : Type 0 where
   pub version : ℕ
   pub kind : Kind
   pub action : Action
+  -- to rewrite the text after the change; None if that is not due, memory was short, or a snapshot was open
+  pub room : Option MostFitting
 
 -- ---- the room
 

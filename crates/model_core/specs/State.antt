@@ -41,6 +41,8 @@ pub record ModelState : Type 0 where
   pub pieces : ℕ
   -- the number of units in its buffers
   pub held : ℕ
+  -- whether they hold too much since memory was short or a snapshot was open at the last change
+  pub overfull : Bool
   -- changes that need no allocation
   pub room : Room
 
@@ -53,7 +55,7 @@ pub record Leaves (ops marking : ℕ) (marked : List Mark) (old new : ModelState
   pub fresh : KeptBy marking old.fresh new.fresh
   pub pieces : GrownBy ops old.pieces new.pieces
 
--- the last parse, the marks and the pieces are unchanged, and there is at least the old room
+-- the last parse, the marks, the pieces and the units in the buffers are unchanged, and there is at least the old room
 pub record KeepsParse (old new : ModelState) : Type 0 where
   pub parsed : new.parsed ≡ old.parsed
   pub tree : new.tree ≡ old.tree
@@ -61,6 +63,8 @@ pub record KeepsParse (old new : ModelState) : Type 0 where
   pub states : new.states ≡ old.states
   pub fresh : new.fresh ≡ old.fresh
   pub pieces : new.pieces ≡ old.pieces
+  pub held : new.held ≡ old.held
+  pub overfull : new.overfull ≡ old.overfull
   pub room : KeepsRoom old.room new.room
 
 -- `left` holds if the call succeeded; after an error the last parse and the pieces are unchanged, and there is at least the old room

@@ -31,6 +31,8 @@ pub struct Model {
     history: EditStack<Change>,
     shelf: Shelf,
     latest: Option<Latest>,
+    /// Whether the buffers held too much before the last change, and could not be reduced.
+    overfull: bool,
 }
 
 impl std::marker::Model for Model {
@@ -69,6 +71,7 @@ impl std::marker::Model for Model {
       fresh = is_fresh m.page;
       pieces = length m.page.text.spans;
       held = unit_count m.page.text.buffers;
+      overfull = m.overfull;
       room = record {
         text = m.page.text.room;
         marks = m.page.spare;

@@ -17,7 +17,7 @@ pub(crate) enum Action {
 }
 
 /// A prepared change, for `commit` on a document of this version and this kind of line endings. Contracts see the version before it, the
-/// kind and the action, but not the room.
+/// kind, the action and the room.
 #[derive(Drop)]
 pub struct Ready {
     /// The version after the change.
@@ -36,7 +36,7 @@ impl Model for Ready {
 
     ghost Value = { Prepared };
 
-    ghost view = { λ r. record { version = r.next - 1; kind = r.kind; action = r.action } };
+    ghost view = { λ r. record { version = r.next - 1; kind = r.kind; action = r.action; room = r.room } };
 
     ghost invariant = { λ r. (0 < r.next) × (r.next ≤ greatest_version) };
 }
@@ -49,6 +49,7 @@ impl Ready {
         ensures version { result.version + 1 ≡ next }
         ensures kind { result.kind ≡ kind }
         ensures action { result.action ≡ action }
+        ensures room { result.room ≡ room }
     {
         Ready {
             next,
@@ -63,6 +64,7 @@ impl Ready {
         ensures next { result.0 ≡ self.version + 1 }
         ensures last { result.0 ≤ greatest_version }
         ensures action { result.1 ≡ self.action }
+        ensures room { result.2 ≡ self.room }
     {
         (self.next, self.action, self.room)
     }

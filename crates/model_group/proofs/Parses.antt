@@ -10,6 +10,8 @@ KeepsParse-same m = record {
   states = refl;
   fresh = refl;
   pieces = refl;
+  held = refl;
+  overfull = refl;
   room = record { text = record { edits = omega arith; units = omega arith; breaks = omega arith }; marks = omega arith; changes = λ some. some };
 }
 
@@ -21,6 +23,8 @@ KeepsParse-then a b c first next = record {
   states = next.states ∙ first.states;
   fresh = next.fresh ∙ first.fresh;
   pieces = next.pieces ∙ first.pieces;
+  held = next.held ∙ first.held;
+  overfull = next.overfull ∙ first.overfull;
   room = record {
     text = record {
       edits = omega (arith, first.room.text.edits, next.room.text.edits);

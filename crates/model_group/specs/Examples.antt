@@ -29,6 +29,7 @@ model f pieces = record {
   fresh = false;
   pieces = pieces;
   held = 0;
+  overfull = false;
   room = record { text = record { edits = 1; units = 66; breaks = 2 }; marks = 1; changes = 1 };
 }
 
@@ -76,6 +77,8 @@ stays f g = record {
   states = refl;
   fresh = refl;
   pieces = refl;
+  held = refl;
+  overfull = refl;
   room = record {
     text = record { edits = omega arith; units = omega arith; breaks = omega arith };
     marks = omega arith;

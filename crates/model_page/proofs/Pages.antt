@@ -4,8 +4,8 @@ use Rattle.std.proofs.Common.{◌≡◌, ℕ, ◌+◌, ◌-◌, ◌*◌, ◌≤�
 use Rattle.std.proofs.lemmas.List.{drop_all}
 use Rattle.text_rules.specs.declared.Op.{Op}
 use Rattle.text_rules.specs.Lines.{lines_of}
-use Rattle.batch_rules.specs.Batches.{applied_from}
-use Rattle.chunk_buffers.specs.Chunks.{Extends}
+use Rattle.batch_rules.specs.Batches.{applied_from, text_units}
+use Rattle.chunk_buffers.specs.Chunks.{Extends, unit_count}
 use Rattle.chunk_buffers.proofs.Spans.{Extends-refl, Extends-trans}
 use Rattle.decoration_rules.specs.Decorations.{Decorations}
 use Rattle.mark_rules.specs.declared.Mark.{Mark}
@@ -21,6 +21,7 @@ use Rattle.model_page.specs.declared.change.Change.TheVariants.{Ops, Endings}
 use Rattle.model_page.specs.Changes.{ops_by, led}
 use Rattle.model_page.specs.Counts.{op_count}
 use Rattle.model_page.specs.LineMarks.{marked_backwards, marks_over}
+use Rattle.model_page.specs.Needs.{need_along, most_appended}
 use Rattle.model_page.specs.Staying.{StaysWith}
 use Rattle.model_page.specs.Ways.{forces, text_by, changes_by, LeadBy, decorations_by, marked_along}
 use Rattle.model_page.specs.State.{PageState, IsPage, flat_text, CanApply, CanFollow, CanLead, HasRoom, HasSpent, KeepsParse, Renews, is_fresh}
@@ -37,6 +38,7 @@ pub record IsPageAfter (old : PageState) (forces : Bool) (ops : List Op) (done :
   pub marks : now.marks ≡ marked_backwards old.text.units (drop (length ops - done) ops) old.marks
   pub lines : length now.marks ≡ length (lines_of now.text.units)
   pub spare : old.spare ≤ now.spare + done
+  pub appended : unit_count now.text.buffers ≤ unit_count old.text.buffers + (text_units (drop (length ops - done) ops) + 8 * done)
   pub parse : KeepsParse old now
 
 pub page_before : (page : PageState) (forces : Bool) (ops : List Op) → IsPage page → IsPageAfter page forces ops 0 page
@@ -49,6 +51,7 @@ page_before page forces ops sound =
       marks = sym (ap (λ o. marked_backwards page.text.units o page.marks) none);
       lines = sound.stays.count;
       spare = omega arith;
+      appended = omega arith;
       parse = record { scanner = refl; parsed = refl; tree = refl; states = refl };
     }
 
@@ -73,7 +76,11 @@ module _ (old now : PageState) (forces : Bool) (ops : List Op) (done : ℕ) (can
         marks = after.marks ∙ ap (λ (k : ℕ). marked_backwards old.text.units (drop k ops) old.marks) all;
         parse = after.parse;
         grown = text.1;
-        spent = record { text = text.2; marks = omega (arith, after.spare) };
+        spent = record {
+          text = text.2;
+          marks = omega (arith, after.spare);
+          appended = omega (arith, after.appended, within, ap (λ (k : ℕ). text_units (drop k ops)) all);
+        };
       }
 
   pub still_page : IsPage old → IsPage now
@@ -101,6 +108,7 @@ pub record IsOnWay (way : Way) (old : PageState) (cs : List Change) (left : List
   pub parse : KeepsParse old now
   pub pieces : length now.text.spans + 2 * op_count way left ≤ length old.text.spans + 2 * op_count way cs
   pub buffers : Extends old.text.buffers now.text.buffers
+  pub appended : unit_count now.text.buffers + most_appended (need_along way left) ≤ unit_count old.text.buffers + most_appended (need_along way cs)
   pub can : CanLead way now left
 
 pub way_begins : (way : Way) (page : PageState) (cs left : List Change) → left ≡ cs → CanLead way page cs → IsOnWay way page cs left page
@@ -113,6 +121,7 @@ way_begins way page cs left all can =
       parse = record { scanner = refl; parsed = refl; tree = refl; states = refl };
       pieces = omega arith;
       buffers = Extends-refl page.text.buffers;
+      appended = omega arith;
       can = can;
     })
 
@@ -160,6 +169,7 @@ module _ (way : Way) (old now : PageState) (cs left : List Change) (c : Change) 
         };
         pieces = omega (arith, before.pieces, done.grown.pieces, next.ops);
         buffers = Extends-trans old.text.buffers now.text.buffers new.text.buffers before.buffers done.grown.buffers;
+        appended = omega (arith, before.appended, spent.appended, next.ops, next.units);
         can = record {
           lead = subst (λ x. LeadBy way x rest) (sym done.text) next.lead;
           room = record {
@@ -192,6 +202,7 @@ pub record IsLed (way : Way) (cs : List Change) (old new : PageState) : Type 0 w
   pub marks : new.marks ≡ marked_along way old.marks (changes_by way (flat_text old.text) cs)
   pub parse : KeepsParse old new
   pub grown : HasGrown (op_count way cs) old.text new.text
+  pub appended : unit_count new.text.buffers ≤ unit_count old.text.buffers + most_appended (need_along way cs)
 
 pub way_ends : (way : Way) (old now : PageState) (cs left : List Change) → left ≡ [] → IsOnWay way old cs left now → IsLed way cs old now
 way_ends way old now cs left none before =
@@ -202,6 +213,7 @@ way_ends way old now cs left none before =
       marks = sym (marks_none way now.marks (flat_text now.text)) ∙ at_end.marks;
       parse = at_end.parse;
       grown = record { pieces = omega (arith, at_end.pieces); buffers = at_end.buffers };
+      appended = omega (arith, at_end.appended);
     }
 
 -- ---- a parse

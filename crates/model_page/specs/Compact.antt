@@ -1,19 +1,19 @@
 -- When a text is rewritten, and its page after that.
 use Rattle.std.specs.Prelude.{ℕ, ◌≡◌, ◌+◌, ◌*◌, ◌≤◌, ◌&&◌, nat_le, nat_lt, Bool, List, length}
 use Rattle.line_starts.specs.Starts.{break_count}
-use Rattle.chunk_buffers.specs.Chunks.{unit_count, at_most_64_bits}
+use Rattle.chunk_buffers.specs.Chunks.{unit_count}
 use Rattle.text_buffer.specs.declared.room.Need.{Need}
 use Rattle.text_buffer.specs.Text.{Text}
 use Rattle.model_page.specs.State.{PageState, KeepsParse, flat_text}
-use Rattle.model_page.specs.declared.compact.TheConstants.{MOST_COMPACTED, MOST_TIMES_HELD, MOST_HELD}
+use Rattle.model_page.specs.declared.compact.TheConstants.{MOST_TIMES_HELD, MOST_HELD}
 
--- the buffers hold far more than a text of this length, which is short enough to be rewritten
+-- buffers with `held` units hold far more than a text of `units` units
 abbrev pub outgrows : ℕ → ℕ → Bool
-outgrows units held = nat_le units MOST_COMPACTED && nat_lt (MOST_TIMES_HELD * units + MOST_HELD) held
+outgrows units held = nat_lt (MOST_TIMES_HELD * units + MOST_HELD) held
 
--- the text is rewritten: its buffers hold far more, and it is not empty
+-- the buffers hold far more than the text
 abbrev pub is_outgrown : Text → Bool
-is_outgrown text = outgrows (length text.units) (at_most_64_bits (unit_count text.buffers)) && nat_lt 0 (length text.units)
+is_outgrown text = outgrows (length text.units) (unit_count text.buffers)
 
 -- the most units and breaks that fit the room to rewrite a text
 pub record MostFitting : Type 0 where
@@ -29,11 +29,12 @@ pub record HasRoomAfter (text : Text) (need : Need) (room : MostFitting) : Type 
   pub units : length text.units + need.units ≤ room.units
   pub breaks : break_count text.units + need.breaks ≤ room.breaks
 
--- the same text, in one piece, and so in no more than before
+-- the same text, in one piece and in no more than before, alone in its buffers
 pub record IsCompactOf (old new : Text) : Type 0 where
   pub text : flat_text new ≡ flat_text old
   pub one : length new.spans ≤ 1
   pub fewer : length new.spans ≤ length old.spans
+  pub alone : unit_count new.buffers ≤ length old.units + 8
 
 -- the same page, whose text lies in no more pieces than before
 pub record IsCompacted (old new : PageState) : Type 0 where

@@ -8,7 +8,7 @@ use Rattle.batch_rules.specs.Batches.{most_units, applied_from, StandFrom, Keeps
 use Rattle.hiding_rules.specs.Hidden.{Scanner}
 use Rattle.line_states.specs.Settling.{Borders}
 use Rattle.bracket_tree_rules.specs.Tree.{Tree}
-use Rattle.chunk_buffers.specs.Chunks.{Extends}
+use Rattle.chunk_buffers.specs.Chunks.{Extends, unit_count}
 use Rattle.decoration_rules.specs.declared.NewDeco.{NewDeco}
 use Rattle.decoration_rules.specs.Refusals.{DecoRefusal}
 use Rattle.decoration_rules.specs.Decorations.{Decorations, decorated, no_decorations}
@@ -25,7 +25,7 @@ use Rattle.model_page.specs.declared.change.Change.TheVariants.{Ops, Endings}
 use Rattle.model_page.specs.declared.change.Way.{Way}
 use Rattle.model_page.specs.Changes.{ops_by, text_from}
 use Rattle.model_page.specs.Carrying.{AreIn}
-use Rattle.model_page.specs.Needs.{need_along}
+use Rattle.model_page.specs.Needs.{need_along, most_appended}
 use Rattle.model_page.specs.Asked.{ReadTree, AreStatesOf, HasRead, HasLowTree}
 use Rattle.model_page.specs.Staying.{fresh_tree, StaysWith}
 use Rattle.model_page.specs.Ways.{LeadBy}
@@ -89,10 +89,11 @@ pub record KeepsRoom (old new : PageState) : Type 0 where
   pub text : text_room.KeepsRoom old.text.room new.text.room
   pub marks : old.spare ≤ new.spare
 
--- these edits were taken from the room, and no more
+-- these edits were taken from the room, and no more; what they append to the buffers is limited
 pub record HasSpent (need : Need) (old new : PageState) : Type 0 where
   pub text : text_room.HasSpent need old.text.room new.text.room
   pub marks : old.spare ≤ new.spare + need.edits
+  pub appended : unit_count new.text.buffers ≤ unit_count old.text.buffers + most_appended need
 
 -- ---- the page after a call
 
@@ -103,12 +104,13 @@ pub record KeepsParse (old new : PageState) : Type 0 where
   pub tree : new.tree ≡ old.tree
   pub states : new.states ≡ old.states
 
--- everything but the room is unchanged, and buffers are only appended to
+-- everything but the room is unchanged, and nothing is appended to the buffers
 pub record IsUntouched (old new : PageState) : Type 0 where
   pub units : new.text.units ≡ old.text.units
   pub kind : new.text.kind ≡ old.text.kind
   pub spans : new.text.spans ≡ old.text.spans
   pub buffers : Extends old.text.buffers new.text.buffers
+  pub held : unit_count new.text.buffers ≡ unit_count old.text.buffers
   pub decorations : new.decorations ≡ old.decorations
   pub marks : new.marks ≡ old.marks
   pub parse : KeepsParse old new

@@ -1,7 +1,8 @@
 //! Carries out ops and changes.
 
-ghost use Rattle.std.specs.Prelude.{◌≡◌, ◌<◌, length};
+ghost use Rattle.std.specs.Prelude.{◌≡◌, ◌+◌, ◌<◌, ◌≤◌, length};
 ghost use Rattle.batch_rules.specs.Batches.{applied_from};
+ghost use Rattle.chunk_buffers.specs.Chunks.{unit_count};
 ghost use Rattle.edit_stack.specs.Element.{step_of};
 ghost use Rattle.document_rules.specs.Document.{carried_to};
 ghost use Rattle.model_page.specs.declared.change.Change.TheVariants.{Endings};
@@ -9,6 +10,7 @@ ghost use Rattle.model_page.specs.Carrying.{edit_with, carried_with, decorations
 ghost use Rattle.model_page.specs.Changes.{led, ops_by, text_from, text_to};
 ghost use Rattle.model_page.specs.Counts.{op_count};
 ghost use Rattle.model_page.specs.LineMarks.{marked_backwards, marks_over};
+ghost use Rattle.model_page.specs.Needs.{need_along, most_appended};
 ghost use Rattle.text_batches.specs.Growth.{HasGrown};
 ghost use Rattle.text_batches.specs.Needs.{need_of_ops};
 ghost use Rattle.model_page.specs.Placed.{op_of};
@@ -104,6 +106,8 @@ impl Page {
         ensures parse { KeepsParse self.old self.new }
         ensures grown { HasGrown (op_count way (step_of step.now).changes)
             self.old.text self.new.text }
+        ensures appended { unit_count self.new.text.buffers ≤ unit_count self.old.text.buffers
+            + most_appended (need_along way (step_of step.now).changes) }
     {
         for done in 0..step.len() {
             let at = place_at(way, step.len(), done);

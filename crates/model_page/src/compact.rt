@@ -1,8 +1,9 @@
 //! Rewrites a text whose buffers hold far more than it, and adjacent pieces of few units.
 
-ghost use Rattle.std.specs.Prelude.{◌≡◌, ◌<◌, ◌≤◌, ◌&&◌, true, false, length, IfOk, IfSome, is_some};
+ghost use Rattle.std.specs.Prelude.{◌≡◌, ◌+◌, ◌≤◌, true, false, length, IfOk, IfSome, is_some};
 ghost use Rattle.unit_text.specs.Kinds.{IsOfKind};
-ghost use Rattle.chunk_buffers.specs.Chunks.{Extends};
+ghost use Rattle.chunk_buffers.specs.Chunks.{unit_count, Extends};
+ghost use Rattle.text_buffer.specs.Rewriting.{most_rewritten};
 ghost use Rattle.model_page.specs.Compact.{IsCompacted, IsCompactOf, HasRoomAfter, fits, is_outgrown};
 
 use crate::page::Page;
@@ -11,14 +12,11 @@ use std::marker::Model;
 use text_buffer::{Need, TextBuffer};
 use unit_text::Flat;
 
-/// A longer text, in units, is not rewritten, so that no edit takes long.
-pub const MOST_COMPACTED: u64 = 1 << 20;
-
 /// A text is rewritten if its buffers hold more than this many times its units, and `MOST_HELD` more.
-pub const MOST_TIMES_HELD: u64 = 4;
+pub const MOST_TIMES_HELD: u64 = 3;
 
 /// The number of units that the buffers may hold beside `MOST_TIMES_HELD` times those of the text.
-pub const MOST_HELD: u64 = 1 << 16;
+pub const MOST_HELD: u64 = 1 << 15;
 
 /// Room to rewrite a page's text as one piece. Contracts see how many units and breaks fit.
 #[derive(Drop)]
@@ -32,7 +30,8 @@ pub struct CompactRoom {
 }
 
 impl Model for CompactRoom {
-    ghost use Rattle.std.specs.Prelude.{length};
+    ghost use Rattle.std.specs.Prelude.{◌≡◌, length};
+    ghost use Rattle.chunk_buffers.specs.Chunks.{unit_count};
     ghost use Rattle.text_buffer.specs.Room.{IsEnough};
     ghost use Rattle.model_page.specs.Compact.{MostFitting};
 
@@ -40,7 +39,7 @@ impl Model for CompactRoom {
 
     ghost view = { λ r. record { units = length r.units.items; breaks = r.breaks } };
 
-    ghost invariant = { λ r. IsEnough r.text.room
+    ghost invariant = { λ r. (unit_count r.text.buffers ≡ 0) × IsEnough r.text.room
         (record { edits = 1; units = length r.units.items; breaks = r.breaks }) };
 }
 
@@ -74,7 +73,6 @@ impl CompactRoom {
     // Returns the text in one piece.
     fn filled(self, text: &TextBuffer) -> TextBuffer
         requires fits { fits self text.now.units ≡ true }
-        requires some { 0 < length text.now.units }
         requires endings { IsOfKind text.now.kind text.now.units }
         ensures { IsCompactOf text.now result }
     {
@@ -93,8 +91,15 @@ impl CompactRoom {
 }
 
 impl Page {
-    /// Reserves room to rewrite the text after a change with this need, if it has 1 to 2^20 units and its buffers hold more than 4 times as
-    /// many and 2^16; else returns None.
+    /// Returns whether the buffers hold more than 3 times the units of the text, and 2^15.
+    pub fn is_outgrown(&self) -> bool
+        ensures { result ≡ is_outgrown self.now.text }
+    {
+        MOST_TIMES_HELD * self.text.len() + MOST_HELD < self.text.chunks().len()
+    }
+
+    /// Reserves room to rewrite the text after a change with this need, if the buffers hold more than 3 times its units and 2^15 now; else
+    /// returns None.
     pub fn compact_room(&self, need: Need) -> Result<Option<CompactRoom>, AllocError>
         ensures due { IfOk result (λ room. is_some room ≡ is_outgrown self.now.text) }
         ensures enough { IfOk result (λ room. IfSome room (HasRoomAfter self.now.text need)) }
@@ -110,15 +115,16 @@ impl Page {
         Ok(Some(CompactRoom::taken(self.alloc, units, breaks)?))
     }
 
-    /// Rewrites the text as one piece in this room, if it has 1 to 2^20 units, its buffers hold more than 4 times as many and 2^16, and it
-    /// fits. Returns whether it did. It takes no memory.
+    /// Rewrites the text as one piece in this room, if it fits, and drops the old buffers. Returns whether it did. It takes no memory.
     pub fn compact(&mut self, room: CompactRoom) -> bool
         ensures page { IsCompacted self.old self.new }
-        ensures answer { result ≡ (is_outgrown self.old.text && fits room self.old.text.units) }
+        ensures answer { result ≡ fits room self.old.text.units }
         ensures written { result ≡ true → length self.new.text.spans ≤ 1 }
+        ensures alone { result ≡ true → unit_count self.new.text.buffers
+            ≤ length self.old.text.units + 8 }
         ensures same { result ≡ false → self.new ≡ self.old }
     {
-        if !self.is_outgrown() || !room.fits(&self.text) {
+        if !room.fits(&self.text) {
             return false;
         }
         self.text = room.filled(&self.text);
@@ -129,17 +135,9 @@ impl Page {
     pub fn rewrite_crowded(&mut self)
         ensures page { IsCompacted self.old self.new }
         ensures buffers { Extends self.old.text.buffers self.new.text.buffers }
+        ensures appended { unit_count self.new.text.buffers
+            ≤ unit_count self.old.text.buffers + most_rewritten + 1 }
     {
         self.text.rewrite_crowded();
-    }
-
-    // Whether the text has units and its buffers hold far more than it.
-    fn is_outgrown(&self) -> bool
-        ensures { result ≡ is_outgrown self.now.text }
-    {
-        let len = self.text.len();
-        len <= MOST_COMPACTED
-            && MOST_TIMES_HELD * len + MOST_HELD < self.text.chunks().len()
-            && 0 < len
     }
 }

@@ -5,7 +5,7 @@ ghost use Rattle.batch_rules.specs.Batches.{inverse_from};
 ghost use Rattle.model_page.specs.Placed.{op_with, IsKeptAs};
 
 use chunk_buffers::ChunkSpan;
-use edit_batches::Batch;
+use edit_batches::SharedBatch;
 use std::cell::Cell;
 use text_buffer::TextBuffer;
 use text_lengths::Span;
@@ -36,7 +36,7 @@ pub(crate) enum Form {
 /// A batch, with the places of its texts.
 #[derive(Drop)]
 pub(crate) struct PlacedOps {
-    pub(crate) batch: Batch,
+    pub(crate) batch: SharedBatch,
     /// One for each op, or empty.
     pub(crate) places: Vec<Place>,
 }

@@ -15,7 +15,7 @@ mod placed;
 mod text_lines;
 
 pub use change::{Change, Way, need_of, need_of_step};
-pub use compact::{CompactRoom, MOST_COMPACTED, MOST_HELD, MOST_TIMES_HELD};
+pub use compact::{CompactRoom, MOST_HELD, MOST_TIMES_HELD};
 pub use events::{batch_along, batches_along};
 pub use in_turn::{ContentChange, StepEdits};
 pub use page::Page;

@@ -12,7 +12,7 @@ ghost use Rattle.model_page.specs.Placed.{op_of};
 use crate::change::Way;
 use crate::form::{Form, MOST_SHORT, Place, PlacedOps, short, short_inverse};
 use chunk_buffers::ChunkSpan;
-use edit_batches::Batch;
+use edit_batches::{Batch, SharedBatch};
 use recasts::{Recast, Side};
 use std::alloc::{AllocError, Global};
 use std::cell::Cell;
@@ -69,6 +69,7 @@ impl PlacedBatch {
         ensures { IfOk result (λ placed. placed ≡ batch) }
     {
         let places = places_for(alloc, batch.ops())?;
+        let batch = SharedBatch::of(alloc, batch)?;
         let ops = Box::new(alloc, PlacedOps { batch, places })?;
         Ok(PlacedBatch {
             form: Form::Many(ops),
@@ -101,7 +102,7 @@ impl PlacedBatch {
     {
         match &self.form {
             Form::Short { .. } => 1,
-            Form::Many(kept) => kept.batch.ops().len(),
+            Form::Many(kept) => kept.batch.batch().ops().len(),
         }
     }
 
@@ -126,7 +127,7 @@ impl PlacedBatch {
                 force: *force,
             },
             Form::Many(kept) => {
-                let op = &kept.batch.ops()[at];
+                let op = &kept.batch.batch().ops()[at];
                 OpView {
                     span: op.span,
                     text: op.text.as_slice(),
@@ -160,20 +161,21 @@ impl PlacedBatch {
     {
         match &self.form {
             Form::Short { len, units, .. } => need_of_text(&units[..*len as usize]),
-            Form::Many(kept) => need_of_batch(&kept.batch),
+            Form::Many(kept) => need_of_batch(kept.batch.batch()),
         }
     }
 
-    /// Copies the batch.
-    pub(crate) fn copied(&self, alloc: Global) -> Result<Batch, AllocError>
+    /// Makes one more owner of the batch. Copies only an op that is stored inline.
+    pub(crate) fn shared(&self, alloc: Global) -> Result<SharedBatch, AllocError>
         ensures { IfOk result (λ batch. batch ≡ self.now) }
     {
         match &self.form {
             Form::Short { .. } => {
                 let op = self.op(0);
-                Batch::of_one(alloc, op.span, op.text, op.force)
+                let batch = Batch::of_one(alloc, op.span, op.text, op.force)?;
+                SharedBatch::of(alloc, batch)
             }
-            Form::Many(kept) => kept.batch.copied(alloc),
+            Form::Many(kept) => kept.batch.shared(),
         }
     }
 }

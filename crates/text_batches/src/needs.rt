@@ -6,14 +6,14 @@ ghost use Rattle.batch_rules.specs.Batches.{most_units, text_units, FollowFrom};
 ghost use Rattle.line_starts.specs.Starts.{break_count};
 ghost use Rattle.text_batches.specs.Needs.{need_of_ops, need_of_batches, text_breaks};
 
-use edit_batches::Batch;
+use edit_batches::{Batch, SharedBatch};
 use line_starts::count_breaks;
 use std::alloc::AllocError;
 use text_buffer::Need;
 use text_rules::Op;
 
 /// Returns the room that the batches need together. The edits of each batch are in order. Fails if that is more than can be reserved.
-pub fn need_of_batches(batches: &[Batch]) -> Result<Need, AllocError>
+pub fn need_of_batches(batches: &[SharedBatch]) -> Result<Need, AllocError>
     requires { All (λ ops. FollowFrom 0 ops → text_units ops ≤ most_units) batches.now }
     ensures { IfOk result (λ need. need ≡ need_of_batches batches.now) }
 {
@@ -23,7 +23,7 @@ pub fn need_of_batches(batches: &[Batch]) -> Result<Need, AllocError>
         breaks: 0,
     };
     for batch in batches {
-        all = joined(all, need_of_batch(batch)).ok_or(AllocError)?;
+        all = joined(all, need_of_batch(batch.batch())).ok_or(AllocError)?;
     }
     Ok(all)
 }

@@ -291,6 +291,7 @@ impl TextBuffer {
         ensures units { self.new.units ≡ units.now }
         ensures kind { self.new.kind ≡ kind }
         ensures pieces { length self.new.spans ≤ 1 }
+        ensures few { length self.new.spans ≤ length units.now }
         ensures appended { unit_count self.new.buffers
             ≤ unit_count self.old.buffers + length units.now + 8 }
         ensures grown { Extends self.old.buffers self.new.buffers }
@@ -308,6 +309,7 @@ impl TextBuffer {
         ensures units { self.new.units ≡ units.now }
         ensures kind { self.new.kind ≡ kind }
         ensures pieces { length self.new.spans ≤ 1 }
+        ensures few { length self.new.spans ≤ length units.now }
         ensures appended { unit_count self.new.buffers
             ≤ unit_count self.old.buffers + length units.now + 8 }
         ensures grown { Extends self.old.buffers self.new.buffers }

@@ -1,8 +1,9 @@
 //! Rewrites the text after a change.
 
-ghost use Rattle.std.specs.Prelude.{◌≡◌, ◌≤◌, ◌&&◌, true, false};
-ghost use Rattle.model_page.specs.Compact.{fits};
-ghost use Rattle.model_core.specs.Compact.{IsCompacted, is_due};
+ghost use Rattle.std.specs.Prelude.{◌≡◌, ◌+◌, ◌≤◌, ◌&&◌, ◌==◌, true, false, length, IfSome, is_some, IsTrue};
+ghost use Rattle.chunk_buffers.specs.Chunks.{at_most_64_bits};
+ghost use Rattle.text_buffer.specs.Rewriting.{most_rewritten};
+ghost use Rattle.model_core.specs.Compact.{CanRewrite, IsCompacted, IsRewritten};
 
 use crate::model::Model;
 use model_page::{CompactRoom, Page};
@@ -20,34 +21,57 @@ pub(crate) fn compact_room(page: &Page, shelf: &Shelf, need: Need) -> Option<Com
 }
 
 impl Model {
-    /// Rewrites the text in this room, as `Page::compact` does, unless a snapshot is open. Returns whether it did. It takes no memory.
-    pub(crate) fn compact(&mut self, room: CompactRoom) -> bool
+    /// Returns the number of units in the buffers of the text, at most 2^64 - 1. After each change it is at most 3 times the units of the
+    /// text before, those of the text after, those of the change with 8 for each edit, and 2^16, unless `is_overfull` returns true.
+    pub fn held(&self) -> u64
+        ensures { result ≡ at_most_64_bits self.now.held }
+    {
+        self.page.text().chunks().len()
+    }
+
+    /// Returns whether the buffers held too much before the last change, and could not be reduced: memory was short, or a snapshot was open.
+    pub fn is_overfull(&self) -> bool
+        ensures { result ≡ self.now.overfull }
+    {
+        self.overfull
+    }
+
+    /// Rewrites the text if that is due, in this room, or notes that it was not possible; then adjacent pieces of few units. It takes no
+    /// memory.
+    pub(crate) fn rewrite(&mut self, due: bool, room: Option<CompactRoom>)
         ensures model { IsCompacted self.old self.new }
-        ensures answer { result ≡ (is_due self.old && fits room self.old.document.units) }
+        ensures held { IsRewritten due room self.old self.new }
+    {
+        let written = self.compact(due, room);
+        self.overfull = due && !written;
+        self.rewrite_crowded();
+    }
+
+    // Rewrites the text in this room, as `Page::compact` does, if that is due, there is room and no snapshot is open. Returns whether it
+    // did. It takes no memory.
+    fn compact(&mut self, due: bool, room: Option<CompactRoom>) -> bool
+        ensures due { due ≡ false → result ≡ false }
+        ensures sure { due ≡ true → CanRewrite room self.old → result ≡ true }
+        ensures model { IsCompacted self.old self.new }
         ensures written { result ≡ true → self.new.pieces ≤ 1 }
+        ensures alone { result ≡ true → self.new.held ≤ length self.new.document.units + 8 }
         ensures same { result ≡ false → self.new ≡ self.old }
     {
-        if !self.shelf.is_empty() {
+        let Some(room) = room else {
+            return false;
+        };
+        if !due || !self.shelf.is_empty() {
             return false;
         }
         self.page.compact(room)
     }
 
-    /// Rewrites the text if there is room for it, then adjacent pieces of few units, as `compact` and `rewrite_crowded` do. It takes no
-    /// memory.
-    pub(crate) fn rewrite(&mut self, room: Option<CompactRoom>)
-        ensures { IsCompacted self.old self.new }
-    {
-        let Some(room) = room else {
-            return self.rewrite_crowded();
-        };
-        let _written = self.compact(room);
-        self.rewrite_crowded();
-    }
-
-    /// Rewrites adjacent pieces of few units, as `Page::rewrite_crowded` does. It takes no memory.
-    pub(crate) fn rewrite_crowded(&mut self)
-        ensures { IsCompacted self.old self.new }
+    // Rewrites adjacent pieces of few units, as `Page::rewrite_crowded` does. It takes no memory.
+    fn rewrite_crowded(&mut self)
+        ensures model { IsCompacted self.old self.new }
+        ensures overfull { self.new.overfull ≡ self.old.overfull }
+        ensures kept { self.old.held ≤ self.new.held }
+        ensures few { self.new.held ≤ self.old.held + (most_rewritten + 1) }
     {
         self.page.rewrite_crowded();
     }

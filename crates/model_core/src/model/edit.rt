@@ -1,14 +1,15 @@
 //! Edits of a document: prepared, and carried out.
 
-ghost use Rattle.std.specs.Prelude.{◌≡◌, ◌+◌, ◌≤◌};
+ghost use Rattle.std.specs.Prelude.{◌≡◌, ◌+◌, ◌≤◌, false, OnOk};
 ghost use Rattle.std.specs.List.{All};
 ghost use Rattle.unit_text.specs.Units.{IsPaired};
 ghost use Rattle.document_rules.specs.Outcomes.{Changes};
 ghost use Rattle.document_rules.specs.Paired.{IsPairedState};
-ghost use Rattle.model_core.specs.Prepared.{need_of, Acts, ActsAlone, ArePairedTexts, CanCommit, HasActed, IsChangeOf, IsEnough, PreparesEdit};
+ghost use Rattle.model_core.specs.Prepared.{batch_of, need_of, Acts, ActsAlone, ArePairedTexts, CanCommit, HasActed, IsChangeOf, IsEnough, PreparesEdit};
 ghost use Rattle.model_core.specs.State.{KeepsParse};
 ghost use Rattle.document_rules.specs.Document.{greatest_version, text_now, flat_edit};
-ghost use Rattle.model_core.specs.Edited.{HasEdited};
+ghost use Rattle.model_core.specs.Compact.{CanRewrite, HasAppendedBy, KeepsBoundBy};
+ghost use Rattle.model_core.specs.Edited.{HasEdited, ops_as_done};
 
 use crate::errors::error_of;
 use crate::latest::Latest;
@@ -35,6 +36,8 @@ impl Model {
         ensures paired_state { All (λ op. IsPaired op.text) ops.items
             → IsPairedState self.old.document → IsPairedState self.new.document }
         ensures parse { HasEdited ops.items result self.old self.new }
+        ensures held { let f = self.old.document in let action = batch_of f (ops_as_done f ops.items) in
+            OnOk result (KeepsBoundBy action self.old self.new) }
     {
         let ready = self.prepare(ops)?;
         self.commit(ready);
@@ -72,9 +75,12 @@ impl Model {
         ensures paired_state { ArePairedTexts ready.action
             → IsPairedState self.old.document → IsPairedState self.new.document }
         ensures parse { HasActed ready.action self.old self.new }
+        ensures held { KeepsBoundBy ready.action self.old self.new }
+        ensures rewritten { CanRewrite ready.room self.new → self.new.overfull ≡ false }
     {
+        let due = self.page.is_outgrown();
         let room = self.act(ready);
-        self.rewrite(room);
+        self.rewrite(due, room);
     }
 
     // Carries out a prepared change. Returns the room to rewrite the text.
@@ -82,6 +88,8 @@ impl Model {
         requires can { CanCommit self.old ready }
         ensures document { Acts ready.action self.old.document self.new.document }
         ensures parse { HasActed ready.action self.old self.new }
+        ensures held { HasAppendedBy ready.action self.old self.new }
+        ensures room { result ≡ ready.room }
     {
         let (version, action, room) = ready.into_parts();
         match action {
@@ -98,6 +106,8 @@ impl Model {
         ensures paired_state { ArePairedTexts ready.action
             → IsPairedState self.old.document → IsPairedState self.new.document }
         ensures parse { HasActed ready.action self.old self.new }
+        ensures held { KeepsBoundBy ready.action self.old self.new }
+        ensures rewritten { CanRewrite ready.room self.new → self.new.overfull ≡ false }
     {
         self.stop();
         self.commit(ready);
@@ -113,6 +123,7 @@ impl Model {
             (need_of (Action.Make change) self.old.document) }
         ensures document { Acts (Action.Make change) self.old.document self.new.document }
         ensures parse { HasActed (Action.Make change) self.old self.new }
+        ensures held { HasAppendedBy (Action.Make change) self.old self.new }
     {
         // These show the prover that both texts are within the limit, and that the text before is of its kind.
         let _before = self.page.text();

@@ -1,11 +1,12 @@
 //! Changes the line endings of a document.
 
-ghost use Rattle.std.specs.Prelude.{◌≡◌};
+ghost use Rattle.std.specs.Prelude.{◌≡◌, true, Ok};
 ghost use Rattle.document_rules.specs.Outcomes.{Moves};
 ghost use Rattle.document_rules.specs.Paired.{IsPairedState};
 ghost use Rattle.document_rules.specs.Document.{is_same_kind, flat_eol};
+ghost use Rattle.model_core.specs.Compact.{KeepsBoundBy};
 ghost use Rattle.model_core.specs.Edited.{HasRecast};
-ghost use Rattle.model_core.specs.Prepared.{PreparesEol};
+ghost use Rattle.model_core.specs.Prepared.{recast_of, PreparesEol};
 ghost use Rattle.model_core.specs.State.{KeepsParse};
 
 use crate::errors::recast_error_of;
@@ -27,6 +28,7 @@ impl Model {
             (flat_eol self.old.document kind) }
         ensures paired_state { IsPairedState self.old.document → IsPairedState self.new.document }
         ensures parse { HasRecast result self.old self.new }
+        ensures held { result ≡ Ok true → KeepsBoundBy (recast_of self.old.document kind) self.old self.new }
     {
         let Some(ready) = self.prepare_eol(kind)? else {
             return Ok(false);

@@ -8,7 +8,7 @@ ghost use Rattle.model_core.specs.History.{last_batches, last_of, latest_steps};
 use crate::latest::Latest;
 use crate::model::Model;
 use crate::walk::next_step;
-use edit_batches::{Batch, Event};
+use edit_batches::{Event, SharedBatch};
 use edit_stack::EditStack;
 use model_page::{Change, Way, batch_along, batches_along};
 use std::alloc::{AllocError, Global};
@@ -24,7 +24,7 @@ impl Model {
         }
     }
 
-    /// Returns the last change: the version before it, and copies of its batches in order. An undo has the inverse batches. New line
+    /// Returns the last change: the version before it, and its batches in order, which it shares with the history. An undo has the inverse batches. New line
     /// endings are one batch that replaces the whole text. None in version 1 only.
     pub fn last_event(&self) -> Result<Option<Event>, AllocError>
         ensures event { IfOk result (λ event. event ≡ flat_event self.now.document) }
@@ -45,7 +45,7 @@ fn latest_batches(
     alloc: Global,
     history: &EditStack<Change>,
     latest: Latest,
-) -> Result<Vec<Batch>, AllocError>
+) -> Result<Vec<SharedBatch>, AllocError>
     requires { 0 < length (latest_steps latest history.now.stack) }
     ensures { (now : FlatText) → IfOk result (λ batches.
         last_batches (last_of (Some latest) now history.now.stack) ≡ Some batches.items) }

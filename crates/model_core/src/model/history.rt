@@ -1,10 +1,11 @@
 //! Undo and redo.
 
-ghost use Rattle.std.specs.Prelude.{◌≡◌, ◌+◌, ◌<◌, ◌≤◌, length, is_some, slice_get};
+ghost use Rattle.std.specs.Prelude.{◌≡◌, ◌+◌, ◌<◌, ◌≤◌, true, Ok, length, is_some, slice_get};
 ghost use Rattle.document_rules.specs.Outcomes.{Moves};
 ghost use Rattle.document_rules.specs.Paired.{IsPairedState};
 ghost use Rattle.model_core.specs.Ways.{flat_move, next_steps};
 ghost use Rattle.model_core.specs.Prepared.{need_of, Acts, HasActed, IsEnough, PreparesMove};
+ghost use Rattle.model_core.specs.Compact.{HasAppendedBy, KeepsBoundBy};
 ghost use Rattle.model_core.specs.Going.{HasGone};
 ghost use Rattle.model_core.specs.State.{KeepsParse};
 ghost use Rattle.document_rules.specs.Document.{greatest_version, flat_stop, flat_undo, flat_redo};
@@ -27,6 +28,7 @@ impl Model {
             (flat_undo self.old.document) }
         ensures paired_state { IsPairedState self.old.document → IsPairedState self.new.document }
         ensures parse { HasGone Way.Back result self.old self.new }
+        ensures held { result ≡ Ok true → KeepsBoundBy (Action.Move Way.Back) self.old self.new }
     {
         self.go(Way::Back)
     }
@@ -38,6 +40,7 @@ impl Model {
             (flat_redo self.old.document) }
         ensures paired_state { IsPairedState self.old.document → IsPairedState self.new.document }
         ensures parse { HasGone Way.On result self.old self.new }
+        ensures held { result ≡ Ok true → KeepsBoundBy (Action.Move Way.On) self.old self.new }
     {
         self.go(Way::On)
     }
@@ -69,6 +72,7 @@ impl Model {
             (flat_move way self.old.document) }
         ensures paired_state { IsPairedState self.old.document → IsPairedState self.new.document }
         ensures parse { HasGone way result self.old self.new }
+        ensures held { result ≡ Ok true → KeepsBoundBy (Action.Move way) self.old self.new }
     {
         let Some(ready) = self.prepare_move(way)? else {
             return Ok(false);
@@ -122,6 +126,7 @@ impl Model {
             (need_of (Action.Move way) self.old.document) }
         ensures document { Acts (Action.Move way) self.old.document self.new.document }
         ensures parse { HasActed (Action.Move way) self.old self.new }
+        ensures held { HasAppendedBy (Action.Move way) self.old self.new }
     {
         let Some(step) = next_step(&self.history, way) else {
             unreachable!()

@@ -41,6 +41,7 @@ impl Model {
             history: EditStack::new(alloc),
             shelf: Shelf::new(alloc),
             latest: None,
+            overfull: false,
         }
     }
 
@@ -67,6 +68,7 @@ impl Model {
             history: EditStack::new(alloc),
             shelf: Shelf::new(alloc),
             latest: None,
+            overfull: false,
         })
     }
 

@@ -4,7 +4,7 @@ use super::asked::expect_one_line_asked;
 use super::documents::{open, put};
 use super::mirrors::expect_a_mirror_that_follows;
 use super::prepared::expect_a_change_in_two_parts;
-use super::rewritten::expect_the_plain_text;
+use super::rewritten::{expect_small_buffers, expect_the_plain_text};
 use model_core::{Kind, Model, ModelError, Op};
 use std::alloc::{AllocError, Global};
 use std::process::Abort;
@@ -28,6 +28,7 @@ fn expect_each_of<R: AllocGlobal + Abort>(rt: &R, model: &mut Model) -> Result<(
     expect_one_line_asked(rt, model)?;
     expect_a_change_in_two_parts(rt, model)?;
     expect_the_plain_text(rt, model)?;
+    expect_small_buffers(rt, model)?;
     expect_a_mirror_that_follows(rt, model)
 }
 

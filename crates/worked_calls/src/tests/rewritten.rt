@@ -1,5 +1,5 @@
 //! A small text in many pieces that gets rewritten, compared with a plain list of its units; with short and longer
-//! ops, which the history stores in two forms.
+//! ops, which the history stores in two forms. Then a text whose buffers would hold ever more.
 
 use super::documents::{open, put};
 use model_core::Model;
@@ -10,10 +10,15 @@ use text_lengths::Span;
 
 const LETTER: u16 = 0x61;
 
-/// At version 2,048 the text has more than 1,024 pieces and is rewritten.
 const LEN: usize = 6_000;
 
 const EDITS: usize = 2_200;
+
+/// The number of pastes of as many units, each of which is undone.
+const PASTES: usize = 100;
+
+/// Three times the text before a paste or its undo, the text after it, what it appends, and 2^16, are less than this.
+const MOST_HELD: u64 = 120_000;
 
 /// The plain list at the end, and the text: after the edits, after undo, and after redo.
 #[derive(Drop)]
@@ -31,6 +36,24 @@ pub fn expect_the_plain_text<R: AllocGlobal + Abort>(
     let texts = edit_and_undo(rt.alloc(), model)?;
     let first = letters(rt.alloc())?;
     expect_texts(rt, &texts, first.as_slice());
+    Ok(())
+}
+
+/// Pastes a text and takes it back, again and again.
+pub fn expect_small_buffers<R: AllocGlobal + Abort>(rt: &R, model: &mut Model) -> Result<(), Fail> {
+    let units = letters(rt.alloc())?;
+    open(model, units.as_slice())?;
+    for _paste in 0..PASTES {
+        put(
+            rt.alloc(),
+            model,
+            Span { start: 9, end: 9 },
+            units.as_slice(),
+        )?;
+        model.undo()?;
+    }
+    assert!(rt; !model.is_overfull());
+    assert!(rt; model.held() < MOST_HELD);
     Ok(())
 }
 

@@ -14,7 +14,7 @@ loop-batch-preserved c = record {
   fit = λ x is.
       let so_far = c.loop-batch.invariant.fit x is in
       one_more x c.args.batches.now c.loop-batch.batch-index c.loop-batch.len so_far c.batch-item.result c.loop-batch-test.true c.batch-item.is c.in-Some.after
-      (c.in-Some.ensures so_far.now so_far.length);
+      (rw (← c.batch.ensures) (c.in-Some.ensures so_far.now so_far.length));
 }
 
 pub returns-in-None : goal.returns-in-None
@@ -22,7 +22,7 @@ returns-in-None c x is =
     let so_far = c.loop-batch.invariant.fit x is in
     let number : c.loop-batch.number + 1 ≡ c.loop-batch.batch-index + 1 = omega arith in
     ap (λ (n : ℕ). Some n) number
-    ∙ does_not_fit x c.args.batches.now c.loop-batch.batch-index c.loop-batch.len so_far c.batch-item.result c.loop-batch-test.true c.batch-item.is (c.in-None.ensures so_far.now so_far.length)
+    ∙ does_not_fit x c.args.batches.now c.loop-batch.batch-index c.loop-batch.len so_far c.batch-item.result c.loop-batch-test.true c.batch-item.is (rw (← c.batch.ensures) (c.in-None.ensures so_far.now so_far.length))
 
 pub returns : goal.returns
 returns c x is = all_fit x c.args.batches.now c.loop-batch.batch-index c.loop-batch.len (c.loop-batch.invariant.fit x is) (omega arith)

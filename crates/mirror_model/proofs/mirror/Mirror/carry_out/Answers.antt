@@ -15,11 +15,12 @@ on_way c =
 
 pub apply_to_text-requires-clause-standing : goal.apply_to_text-requires-clause-standing
 apply_to_text-requires-clause-standing c =
-    rw c.ops.ensures.ops
-    (first_stands c.args.self.now.units c.args.batches.now c.loop-batch.self-inside.text c.batch-item.result _ (on_way (goal.at.apply_to_text-requires-clause-standing c).After-ops) c.ops.ensures.in_order)
+    rw (c.ops.ensures.ops, c.batch.ensures)
+    (first_stands c.args.self.now.units c.args.batches.now c.loop-batch.self-inside.text c.batch-item.result _ (on_way (goal.at.apply_to_text-requires-clause-standing c).After-ops)
+    (rw (← c.batch.ensures) c.ops.ensures.in_order))
 
 pub apply_to_text-requires-clause-small : goal.apply_to_text-requires-clause-small
 apply_to_text-requires-clause-small c =
     let way = on_way (goal.at.apply_to_text-requires-clause-small c).After-ops in
-    let few = first_texts c.args.self.now.units c.args.batches.now c.loop-batch.self-inside.text c.batch-item.result _ way c.ops.ensures.in_order in
-    rw c.ops.ensures.ops (omega (arith, few, way.small))
+    let few = first_texts c.args.self.now.units c.args.batches.now c.loop-batch.self-inside.text c.batch-item.result _ way (rw (← c.batch.ensures) c.ops.ensures.in_order) in
+    rw (c.ops.ensures.ops, c.batch.ensures) (omega (arith, few, way.small))

@@ -15,6 +15,7 @@ use Rattle.model_core.specs.History.{kept_with}
 use Rattle.model_core.specs.Prepared.{IsChangeOf, Makes}
 use Rattle.model_core.specs.State.{ModelState}
 use Rattle.model_core.proofs.Editing.{change_leads, can_follow_change, made_document}
+use Rattle.model_core.proofs.Held.{held_grows}
 use Rattle.model_core.proofs.Histories.{IsHistory-kept}
 use Rattle.model_core.proofs.LastChanges.{from_one, HasLatest-kept}
 use Rattle.model_core.proofs.Shelving.{shown-grown, IsShelf-grown}
@@ -106,4 +107,11 @@ returns-clause-parse c =
       fresh = kept_as (marking_ops On change) (marking_ops On change) page.tree c.follow.new.self.tree page.marks (marks_over On change page.text.units page.marks)
           c.follow.new.self.marks c.args.self.now.fresh refl c.follow.ensures.parse.tree c.follow.ensures.marks was (marked_over On change text page.marks fit);
       pieces = omega (arith, c.follow.ensures.grown.pieces, ap (λ (s : ModelState). s.pieces) c.self.view_is);
+    }
+
+pub returns-clause-held : goal.returns-clause-held
+returns-clause-held c =
+    let was = ap (λ (s : ModelState). s.held) c.self.view_is in record {
+      kept = omega (arith, was, held_grows c.self.inside.page.text.buffers c.follow.new.self.text.buffers c.follow.ensures.grown.buffers);
+      few = omega (arith, was, c.follow.ensures.spent.appended);
     }

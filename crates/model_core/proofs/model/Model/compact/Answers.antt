@@ -37,3 +37,8 @@ returns-clause-model c =
       fresh = (λ i. is_some (fresh_tree (page.parse.tree i) (page.marks i))) ∙ ap (λ (s : ModelState). s.fresh) c.self.view_is;
       pieces = omega (arith, page.pieces, ap (λ (s : ModelState). s.pieces) c.self.view_is);
     }
+
+pub returns-clause-alone : goal.returns-clause-alone
+returns-clause-alone c =
+    let units = ap (λ t. length t.units) c.compact.ensures.page.text in
+    λ written. omega (arith, c.compact.ensures.alone written, units)

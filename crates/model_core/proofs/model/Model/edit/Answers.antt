@@ -1,7 +1,10 @@
 use Rattle.std.proofs.Common.{Ok, arith}
 use Rattle.std.proofs.lemmas.Grind.{common_steps}
 use Rattle.document_rules.proofs.PairedStates.{IsPairedState-edit}
-use Rattle.model_core.specs.Prepared.{IsEditReady}
+use Rattle.document_rules.specs.Document.{FlatState}
+use Rattle.model_core.specs.Edited.{ops_as_done}
+use Rattle.model_core.specs.Prepared.{IsEditReady, batch_of}
+use Rattle.model_core.proofs.Held.{bound_as_prepared}
 use Rattle.model_core.proofs.Preparing.{IsEdited, edited_as_prepared}
 use Rattle.model_core.proofs.model.Model.edit.Goals as goal
 use Rattle.model_core.proofs.model.Model.edit.Goals.{After-commit}
@@ -21,3 +24,10 @@ returns-clause-paired_state c =
 
 pub returns-clause-parse : goal.returns-clause-parse
 returns-clause-parse c = (edited (goal.at.returns-clause-parse c).After-commit).parse
+
+pub returns-clause-held : goal.returns-clause-held
+returns-clause-held c =
+    let ops = c.args.ops.items in
+    let is : IsEditReady ops c.prepare.new.self c.in_ok-ready.ready = grind (arith, common_steps) in
+    bound_as_prepared c.in_ok-ready.ready.action (λ (f : FlatState). batch_of f (ops_as_done f ops)) c.args.self.now c.prepare.new.self c.commit.new.self
+    is.action c.prepare.ensures.document c.prepare.ensures.parse c.commit.ensures.held

@@ -13,6 +13,7 @@ use Rattle.model_core.specs.History.{latest_along}
 use Rattle.model_core.specs.Prepared.{next_op_count, next_marking_count, next_unit_count, next_break_count}
 use Rattle.model_core.specs.Ways.{next_steps, passed, alternative_after, flat_move}
 use Rattle.model_core.proofs.Shelving.{shown-grown, IsShelf-grown}
+use Rattle.model_core.proofs.Held.{held_grows}
 use Rattle.model_core.proofs.LastChanges.{from_one}
 use Rattle.model_core.proofs.Stepping.{document_of, IsStep, step_on, no_next_on}
 use Rattle.model_core.proofs.model.Model.follow.Goals as goal
@@ -117,4 +118,18 @@ returns-clause-parse c =
           (marked_along way page.marks (changes_by way (flat_text page.text) changes)) c.lead.new.self.marks c.args.self.now.fresh marking c.lead.ensures.parse.tree c.lead.ensures.marks fresh
           (marked_by_way way page.marks (flat_text page.text) changes step.lead);
       pieces = omega (arith, c.lead.ensures.grown.pieces, ops, ap (λ (s : ModelState). s.pieces) c.self.view_is);
+    }
+
+pub returns-clause-held : goal.returns-clause-held
+returns-clause-held c =
+    let way = c.args.way in
+    let changes = (step_of c.in-Some.step.now).changes in
+    let step = step_taken (goal.at.returns-clause-held c).In-Some in
+    let was = ap (λ (s : ModelState). s.held) c.self.view_is in
+    let edits : op_count way changes ≡ next_op_count (next_steps way c.args.self.now.document.history) =
+    sym step.ops ∙ ap (λ (s : ModelState). next_op_count (next_steps way s.document.history)) c.self.view_is in
+    let units : unit_count way changes ≡ next_unit_count way (next_steps way c.args.self.now.document.history) =
+    sym step.units ∙ ap (λ (s : ModelState). next_unit_count way (next_steps way s.document.history)) c.self.view_is in record {
+      kept = omega (arith, was, held_grows c.self.inside.page.text.buffers c.lead.new.self.text.buffers c.lead.ensures.grown.buffers);
+      few = omega (arith, was, edits, units, c.lead.ensures.appended);
     }

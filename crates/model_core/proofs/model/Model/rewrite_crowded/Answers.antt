@@ -1,4 +1,5 @@
 use Rattle.std.proofs.Common.{refl, ap, ◌∙◌, arith}
+use Rattle.model_core.proofs.Held.{held_grows}
 use Rattle.std.specs.Prelude.{is_some}
 use Rattle.model_core.proofs.Untouched.{ShowsSame, history_same, shelf_same, document_same}
 use Rattle.model_core.specs.State.{ModelState}
@@ -25,11 +26,11 @@ invariant_of-self c =
       c.self.invariant.3,
     )
 
-pub returns : goal.returns
-returns c =
+pub returns-clause-model : goal.returns-clause-model
+returns-clause-model c =
     let m = c.self.inside in
     let page = c.rewrite_crowded.ensures.page in
-    let same = shown (goal.at.returns c).After-rewrite_crowded in record {
+    let same = shown (goal.at.returns-clause-model c).After-rewrite_crowded in record {
       document = document_same m.page c.rewrite_crowded.new.self same m.history.stack m.history.stack refl
           m.shelf c.self.invariant.2 m.version m.alternative m.latest _ (ap (λ (s : ModelState). s.document) c.self.view_is);
       parsed = page.parse.parsed ∙ ap (λ (s : ModelState). s.parsed) c.self.view_is;
@@ -39,3 +40,7 @@ returns c =
       fresh = (λ i. is_some (fresh_tree (page.parse.tree i) (page.marks i))) ∙ ap (λ (s : ModelState). s.fresh) c.self.view_is;
       pieces = omega (arith, page.pieces, ap (λ (s : ModelState). s.pieces) c.self.view_is);
     }
+
+pub returns-clause-kept : goal.returns-clause-kept
+returns-clause-kept c =
+    omega (arith, ap (λ (s : ModelState). s.held) c.self.view_is, held_grows c.self.inside.page.text.buffers c.rewrite_crowded.new.self.text.buffers c.rewrite_crowded.ensures.buffers)

@@ -148,6 +148,7 @@ loop-done-preserved c =
       lines = ap length c.mark.ensures.marks ∙ marks_lines now.text.units op c.replace_again-dirty.result edit now.last.marks before.lines
           ∙ ap (λ u. length (lines_of u)) (sym left);
       spare = omega (arith, before.spare, c.mark.ensures.room);
+      appended = omega (arith, before.appended, c.replace_again-dirty.ensures.eight, turn.units);
       parse = record {
         scanner = before.parse.scanner;
         parsed = c.mark.ensures.parsed ∙ before.parse.parsed;

@@ -50,4 +50,4 @@ returns c =
     let cs = (step_of c.args.step.now).changes in
     let none = none_left c.args.way cs c.loop-done.done (omega arith) in
     let led = way_ends c.args.way c.args.self.now c.loop-done.self cs (rest_on c.args.way c.loop-done.done cs) none c.loop-done.invariant in
-    record { text = led.text; decorations = led.decorations; marks = led.marks; parse = led.parse; grown = led.grown }
+    record { text = led.text; decorations = led.decorations; marks = led.marks; parse = led.parse; grown = led.grown; appended = led.appended }

@@ -43,3 +43,8 @@ pub returns-clause-pieces : goal.returns-clause-pieces
 returns-clause-pieces c =
     let few = (whole (goal.at.returns-clause-pieces c).After-splice-told).few in
     omega (arith, few, length-map (pieces_of c.splice-told.new.self.entries) (λ p. p.span))
+
+pub returns-clause-few : goal.returns-clause-few
+returns-clause-few c =
+    let few = (whole (goal.at.returns-clause-few c).After-splice-told).by_units in
+    omega (arith, few, length-map (pieces_of c.splice-told.new.self.entries) (λ p. p.span))
