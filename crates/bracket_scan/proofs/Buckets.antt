@@ -33,14 +33,14 @@ longest_among-append pairs at (s ∷ ss) ts units =
 
 -- ---- one text
 
-not_standing : (at kind : ℕ) (opening : Bool) (v : ℕ) (text : List ℕ) (u : ℕ) (units : List ℕ)
+pub not_standing : (at kind : ℕ) (opening : Bool) (v : ℕ) (text : List ℕ) (u : ℕ) (units : List ℕ)
     → eqb v u ≡ false → standing at kind opening (v ∷ text) (u ∷ units) ≡ None
 not_standing at kind opening v text u units h = rw h refl
 
-other_bucket : (v u : ℕ) → eqb (v % BUCKETS) (u % BUCKETS) ≡ false → eqb v u ≡ false
-other_bucket v u h = elim (eqb_tells v u) [
+pub other_remainder : (n v u : ℕ) → eqb (v % n) (u % n) ≡ false → eqb v u ≡ false
+other_remainder n v u h = elim (eqb_tells v u) [
   | inl same ↦
-      let clash : eqb (v % BUCKETS) (u % BUCKETS) ≡ true = rw same.1 (itself (u % BUCKETS)) in cc
+      let clash : eqb (v % n) (u % n) ≡ true = rw same.1 (itself (u % n)) in cc
   | inr differ ↦ differ.0
 ]
   where
@@ -58,7 +58,7 @@ one_text pairs at kind opening (v ∷ text) u units h k = either (eqb (v % BUCKE
     either true e =
         longer_none (standing at kind opening (text_at pairs (start kind opening)) (u ∷ units))
         ∙ ap (λ (x : List ℕ). standing at kind opening x (u ∷ units)) h
-    either false e = sym (not_standing at kind opening v text u units (other_bucket v u (sym e)))
+    either false e = sym (not_standing at kind opening v text u units (other_remainder BUCKETS v u (sym e)))
 
 -- ---- all texts of a table
 

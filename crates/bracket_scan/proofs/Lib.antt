@@ -1,3 +1,5 @@
 pub mod Buckets
+pub mod FirstUnits
+pub mod Texts
 pub mod Scanning
 pub mod Parts

@@ -1,13 +1,17 @@
 -- The steps of a scan: past a token, and past a unit at which no token begins.
-use Rattle.std.proofs.Common.{◌≡◌, ℕ, zero, suc, ◌+◌, ◌-◌, ◌<◌, ◌≤◌, true, Option, Some, None, List, [], ◌∷◌, ◌++◌, length, take, drop, get_or, refl, ap, sym, ◌∙◌, arith, length-take}
-use Rattle.std.specs.Prelude.{IfSome}
+use Rattle.std.proofs.Common.{◌≡◌, ℕ, zero, suc, ◌+◌, ◌-◌, ◌<◌, ◌≤◌, Bool, true, false, cond, Option, Some, None, List, [], ◌∷◌, ◌++◌, length, take, drop, get_or, refl, ap, sym, ◌∙◌, arith, length-take, length-drop, drop_of_length-le}
+use Rattle.std.specs.Prelude.{IfSome, not, nat_lt}
+use Rattle.std.specs.List.{position, position_or_len}
 use Rattle.std.specs.Option.{option_to_list}
+use Rattle.std.proofs.lemmas.Bool.{ltb-true, ltb-false}
 use Rattle.std.proofs.lemmas.List.{drop_more, drop-drop, take-append-le, append_assoc}
 use Rattle.bracket_rules.specs.declared.Token.{Token}
 use Rattle.bracket_rules.specs.Table.{Table, is_table, longest, units_after_first, tokens_from}
+use Rattle.bracket_scan.specs.Firsts.{may_begin}
 use Rattle.bracket_scan.specs.Starts.{IsWithin}
 use Rattle.bracket_rules.specs.declared.TheConstants.{MOST_PAIRS}
 use Rattle.bracket_rules.proofs.Tokens.{IsThere, longest-there}
+use Rattle.bracket_scan.proofs.FirstUnits.{none_begins}
 
 -- ---- a token has units, and no more than are there
 
@@ -65,6 +69,66 @@ tokens_from-none table line at h k =
     ap (tokens_from table at 0) units
     ∙ tokens_from-found table at u rest None (ap (longest at 0 table) (sym units) ∙ k)
     ∙ ap (λ (n : ℕ). tokens_from table n 0 rest) (omega arith)
+
+-- ---- past the units at which no text begins
+
+past_first : (table : Table) (at next u : ℕ) (units : List ℕ) (b : Bool) → is_table table ≡ true → b ≡ may_begin table u
+    → tokens_from table (suc at) 0 units ≡ tokens_from table (suc at + next) 0 (drop next units)
+    → tokens_from table at 0 (u ∷ units)
+    ≡ tokens_from table (at + cond (not b) (1 + next) 0) 0 (drop (cond (not b) (1 + next) 0) (u ∷ units))
+past_first table at next u units true h e rest = ap (λ (n : ℕ). tokens_from table n 0 (u ∷ units)) (omega arith)
+past_first table at next u units false h e rest =
+    let behind : suc at + next ≡ at + (1 + next) = omega arith in
+    let more : suc next ≡ 1 + next = omega arith in
+    tokens_from-found table at u units None (none_begins at u table units h (sym e))
+    ∙ rest
+    ∙ ap (λ (n : ℕ). tokens_from table n 0 (drop next units)) behind
+    ∙ ap (λ (n : ℕ). tokens_from table (at + (1 + next)) 0 (drop n (u ∷ units))) more
+
+to_next_start : (table : Table) (at : ℕ) (units : List ℕ) → is_table table ≡ true
+    → tokens_from table at 0 units
+    ≡ tokens_from table (at + position_or_len (may_begin table) units) 0 (drop (position_or_len (may_begin table) units) units)
+to_next_start table at [] h = refl
+to_next_start table at (u ∷ units) h =
+    past_first table at (position_or_len (may_begin table) units) u units (may_begin table u) h refl (to_next_start table (suc at) units h)
+
+-- the next start is in the line, and the tokens are those from there on
+pub tokens_from-next : (table : Table) (line : List ℕ) (at next : ℕ) → is_table table ≡ true
+    → position (may_begin table) (drop at line) ≡ Some next
+    → (at + next < length line) × (tokens_from table at 0 (drop at line) ≡ tokens_from table (at + next) 0 (drop (at + next) line))
+tokens_from-next table line at next h k = either (nat_lt first (length units)) refl k
+  where
+    units : List ℕ
+    units = drop at line
+
+    first : ℕ
+    first = position_or_len (may_begin table) units
+
+    either : (b : Bool) → b ≡ nat_lt first (length units) → cond b (Some first) None ≡ Some next
+        → (at + next < length line) × (tokens_from table at 0 units ≡ tokens_from table (at + next) 0 (drop (at + next) line))
+    either true e is =
+        let same : first ≡ next = cc in
+        let within : first < length units = ltb-true first (length units) (sym e) in (
+          omega (arith, within, same, length-drop at line),
+          to_next_start table at units h
+              ∙ ap (λ (n : ℕ). tokens_from table (at + n) 0 (drop n units)) same
+              ∙ ap (tokens_from table (at + next) 0) (drop-drop next at line),
+        )
+    either false e is = cc
+
+-- without a next start there are no tokens
+pub tokens_from-no_next : (table : Table) (at : ℕ) (units : List ℕ) → is_table table ≡ true
+    → position (may_begin table) units ≡ None → tokens_from table at 0 units ≡ []
+tokens_from-no_next table at units h k = either (nat_lt first (length units)) refl k
+  where
+    first : ℕ
+    first = position_or_len (may_begin table) units
+
+    either : (b : Bool) → b ≡ nat_lt first (length units) → cond b (Some first) None ≡ None → tokens_from table at 0 units ≡ []
+    either true e is = cc
+    either false e is =
+        let past : length units ≤ first = ltb-false first (length units) (sym e) in
+        to_next_start table at units h ∙ ap (tokens_from table (at + first) 0) (drop_of_length-le units past)
 
 -- ---- what has been pushed
 

@@ -1,3 +1,4 @@
 pub mod Starts
+pub mod Firsts
 pub mod Texts
 pub mod Parts

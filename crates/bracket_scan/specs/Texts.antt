@@ -7,11 +7,12 @@ use Rattle.bracket_scan.specs.declared.starts.Start.{Start}
 use Rattle.bracket_scan.specs.declared.starts.TheConstants.{BUCKETS}
 use Rattle.bracket_scan.specs.declared.table.Texts.{Texts}
 use Rattle.bracket_scan.specs.declared.table.Texts.TheVariants.{Standard, Listed}
+use Rattle.bracket_scan.specs.Firsts.{Indexes}
 use Rattle.bracket_scan.specs.Starts.{starts_in}
 
 abbrev pub pairs_of : Texts → Table
 pairs_of Standard = standard_table
-pairs_of (Listed pairs starts) = pairs.items
+pairs_of (Listed pairs starts firsts) = pairs.items
 
 -- there are `buckets` buckets, and each has the texts of the pairs whose first unit is in it
 pub record Dispatches (buckets : ℕ) (pairs : Table) (starts : List (Vec Start Global)) : Type 0 where
@@ -21,4 +22,5 @@ pub record Dispatches (buckets : ℕ) (pairs : Table) (starts : List (Vec Start 
 
 abbrev pub AreTexts : Texts → Type 0
 AreTexts Standard = ⊤
-AreTexts (Listed pairs starts) = IsTrue (is_table pairs.items) × Dispatches BUCKETS pairs.items starts.items
+AreTexts (Listed pairs starts firsts) =
+    IsTrue (is_table pairs.items) × Dispatches BUCKETS pairs.items starts.items × Indexes pairs.items firsts.items

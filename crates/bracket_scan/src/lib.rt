@@ -2,6 +2,7 @@
 //! that begins there.
 #![tactic(auto)]
 
+mod firsts;
 mod rules;
 mod starts;
 mod table;

@@ -1,11 +1,14 @@
 // Tables, and the scan of a line.
 ghost use Rattle.std.specs.Prelude.{◌≡◌, ◌<◌, ◌↔◌, ◌++◌, ◌∷◌, ℕ, List, true, false, length, take, IsTrue, IfSome, IfOk, OnOk, OnErr};
 ghost use Rattle.bracket_rules.specs.Table.{is_table, standard_table, longest, tokens_of};
+ghost use Rattle.std.specs.List.{position};
+ghost use Rattle.bracket_scan.specs.Firsts.{may_begin, Indexes};
 ghost use Rattle.bracket_scan.specs.Starts.{IsWithin};
 ghost use Rattle.bracket_scan.specs.Texts.{Dispatches};
 
 mod hidden;
 
+use crate::firsts::{firsts_of, is_first, standard_firsts};
 use crate::rules::is_table;
 use crate::starts::{BUCKETS, Start, longest_among, starts_in};
 use bracket_rules::Token;
@@ -36,8 +39,8 @@ pub struct BracketTable {
 enum Texts {
     // `()`, `[]` and `{}`, without allocated memory.
     Standard,
-    // The pairs, and for each bucket of units the texts whose first unit is in it.
-    Listed(Vec<(Units, Units)>, Vec<Vec<Start>>),
+    // The pairs, for each bucket of units the texts whose first unit is in it, and the index of the first units.
+    Listed(Vec<(Units, Units)>, Vec<Vec<Start>>, Vec<bool>),
 }
 
 impl Model for BracketTable {
@@ -99,8 +102,11 @@ impl BracketTable {
         ensures ok { OnOk result (out.new.items ≡ out.old.items ++ tokens_of self.now line.now) }
         ensures err { OnErr result (take (length out.old.items) out.new.items ≡ out.old.items) }
     {
+        // The invariant shows that the pairs are a table.
+        let _texts = &self.texts;
         let mut at = 0;
-        while at < line.len() {
+        while let Some(passed) = self.next_start(&line[at..]) {
+            at += passed;
             match self.longest(at as u64, &line[at..]) {
                 Some(token) => {
                     out.push(token)?;
@@ -112,6 +118,31 @@ impl BracketTable {
         Ok(())
     }
 
+    // Returns the first position at which a text of the table may begin.
+    fn next_start(&self, units: &[u16]) -> Option<usize>
+        ensures { result ≡ position (may_begin self.now) units.now }
+    {
+        let firsts = self.firsts();
+        units.iter().position(|unit| is_first(firsts, *unit))
+    }
+
+    // Returns whether a text of the table may begin with this unit.
+    fn may_begin(&self, unit: u16) -> bool
+        ensures { result ≡ may_begin self.now unit }
+    {
+        is_first(self.firsts(), unit)
+    }
+
+    // Returns the index of the first units of the table.
+    fn firsts(&self) -> &[bool]
+        ensures { Indexes self.now result.now }
+    {
+        match &self.texts {
+            Texts::Standard => standard_firsts(),
+            Texts::Listed(_, _, firsts) => firsts,
+        }
+    }
+
     // Returns the longest text of the table with which the units begin, as a token at position `at`.
     fn longest(&self, at: u64, units: &[u16]) -> Option<Token>
         requires { 0 < length units.now }
@@ -120,7 +151,7 @@ impl BracketTable {
     {
         match &self.texts {
             Texts::Standard => standard_token(at, units[0]),
-            Texts::Listed(pairs, starts) => {
+            Texts::Listed(pairs, starts, _) => {
                 let bucket = (units[0] % BUCKETS) as usize;
                 longest_among(pairs, at, &starts[bucket], units)
             }
@@ -133,9 +164,10 @@ fn listed(alloc: Global, pairs: &[(Units, Units)]) -> Result<BracketTable, Alloc
     ensures { IfOk result (λ table. table ≡ pairs.now) }
 {
     let starts = starts_of(alloc, pairs)?;
+    let firsts = firsts_of(alloc, pairs)?;
     let pairs = copies_of(alloc, pairs)?;
     Ok(BracketTable {
-        texts: Texts::Listed(pairs, starts),
+        texts: Texts::Listed(pairs, starts, firsts),
     })
 }
 

@@ -1,13 +1,15 @@
 -- Spans of buffers that grow.
-use Rattle.std.proofs.Common.{◌≡◌, ℕ, ◌+◌, ◌-◌, ◌<◌, ◌≤◌, Bool, true, false, cond, List, [], ◌∷◌, ◌++◌, length, take, drop, set, get_or, map, refl, ap, sym, subst, ◌∙◌, inl, inr, append_assoc, arith}
+use Rattle.std.proofs.Common.{◌≡◌, ℕ, ◌+◌, ◌-◌, ◌<◌, ◌≤◌, Bool, true, false, cond, Option, Some, List, [], ◌∷◌, ◌++◌, length, take, drop, set, get_or, map, refl, ap, sym, subst, ◌∙◌, inl, inr, append_assoc, arith}
 use Rattle.std.proofs.lemmas.Bool.{cases_eq}
-use Rattle.std.proofs.lemmas.List.{length-append, length-map, map-set, get_or-map, length-set, length-take, length-take-le, length-drop, drop-drop, length_push, take_all, take_at, take-take, drop_at, drop-take, get_or-set_same, get_or-set_other, get_or_append_left, get_or_default}
-use Rattle.std.proofs.lemmas.List.Sums.{sum_by-set}
+use Rattle.std.proofs.lemmas.List.{length-append, length-map, map-set, get_or-map, length-set, length-take, length-take-le, length-drop, drop-drop, length_push, take_all, take_at, take-take, drop_at, drop-take, get_or-set_same, get_or-set_other, get_or_append_left, get_or_default, get_or_push, map-append}
+use Rattle.std.proofs.lemmas.List.Elements.{All-weaker, All-pop}
+use Rattle.std.proofs.lemmas.List.Sums.{sum_by-set, sum_by_push}
+use Rattle.std.specs.List.{All}
 use Rattle.std.proofs.Math.Seq.{map-set_same}
 use Rattle.text_rules.specs.Breaks.{joins_pair}
 use Rattle.chunk_buffers.specs.Buffer.{most_units, Filled, padding, padded}
 use Rattle.chunk_buffers.specs.declared.span.ChunkSpan.{ChunkSpan}
-use Rattle.chunk_buffers.specs.Chunks.{most_buffers, buffer_at, units_at, LiesIn, Extends, EndsLast, unit_count, at_most_64_bits, part_of, last_buffer, AreChunks}
+use Rattle.chunk_buffers.specs.Chunks.{most_buffers, buffer_at, units_at, LiesIn, Extends, EndsLast, unit_count, at_most_64_bits, part_of, last_buffer, IsReady, AreChunks}
 
 module _ (front whole : List ℕ) (is_front : take (length front) whole ≡ front) where
   front_le : length front ≤ length whole
@@ -183,23 +185,55 @@ last_is items number old last old_is =
     ap (λ n. get_or items n (record { units = []; room = 0; break_room = 0 })) there
     ∙ get_or_default items number (record { units = []; room = 0; break_room = 0 }) old (omega (arith, last)) ∙ sym old_is
 
--- the last buffer is replaced by one with the same units that has room for `breaks` breaks
-pub AreChunks-set : (items : List Filled) (number : ℕ) (old new : Filled) (units spare breaks : ℕ) → AreChunks items units spare → number + 1 ≡ length items
-    → old ≡ get_or items number old → new.units ≡ old.units → breaks ≤ new.break_room → AreChunks (set items number new) units breaks
-AreChunks-set items number old new units spare breaks are last old_is units_are enough = record {
+-- a ready buffer has room for fewer breaks too
+pub AreReady-fewer : (ready : List Filled) (breaks fewer : ℕ) → fewer ≤ breaks → All (IsReady breaks) ready → All (IsReady fewer) ready
+AreReady-fewer ready breaks fewer least = All-weaker (IsReady breaks) (IsReady fewer) (λ b is. record { empty = is.empty; room = is.room; breaks = omega (arith, is.breaks) }) ready
+
+-- the last buffer is replaced by one with the same units that has room for `breaks` breaks, as the ready ones have
+pub AreChunks-set : (items ready : List Filled) (number : ℕ) (old new : Filled) (units spare breaks more : ℕ) → AreChunks items ready units spare more
+    → number + 1 ≡ length items → old ≡ get_or items number old → new.units ≡ old.units → breaks ≤ new.break_room → All (IsReady breaks) ready
+    → AreChunks (set items number new) ready units breaks more
+AreChunks-set items ready number old new units spare breaks more are last old_is units_are enough full = record {
   breaks = omega (arith, enough, ap (λ b. b.break_room) (last_set items number new last));
+  full = full;
   few = omega (arith, are.few, length-set items number new);
+  place = are.place;
   total = are.total ∙ ap (λ bs. at_most_64_bits (unit_count bs)) (sym (same_units items number old new old_is units_are));
 }
+
+pub last_push : (items : List Filled) (b : Filled) → last_buffer (items ++ b ∷ []) ≡ b
+last_push items b = get_or_push items b _ (length (items ++ b ∷ []) - 1) (omega (arith, length_push items b))
+
+-- the one of the ready buffers that is begun
+pub last_begun : (ready left : List Filled) (b : Filled) (spare : ℕ) → All (IsReady spare) ready → ready ≡ left ++ b ∷ [] → IsReady spare b
+last_begun ready left b spare full is = (All-pop (IsReady spare) ready left (Some b) is full).1
+
+pub units_begun : (items : List Filled) (b : Filled) → b.units ≡ [] → map (λ b. b.units) (items ++ b ∷ []) ≡ map (λ b. b.units) items ++ [] ∷ []
+units_begun items b empty = map-append (λ (b : Filled). b.units) items (b ∷ []) ∙ ap (λ u. map (λ (b : Filled). b.units) items ++ u ∷ []) empty
+
+-- the last of the ready buffers becomes the last buffer
+pub AreChunks-begun : (items ready left new : List Filled) (b : Filled) (units spare more places : ℕ) → AreChunks items ready units spare more
+    → ready ≡ left ++ b ∷ [] → new ≡ items ++ b ∷ [] → more ≤ places + 1 → AreChunks new left units spare places
+AreChunks-begun items ready left new b units spare more places are is new_is enough =
+    let begun = last_begun ready left b spare are.full is in
+    let long = ap length is ∙ length_push left b in record {
+      breaks = omega (arith, begun.breaks, ap (λ bs. (last_buffer bs).break_room) new_is, ap (λ b. b.break_room) (last_push items b));
+      full = (All-pop (IsReady spare) ready left (Some b) is are.full).0;
+      few = omega (arith, are.few, long, ap length new_is, length_push items b);
+      place = omega (arith, are.place, long);
+      total = are.total ∙ ap at_most_64_bits (let e : unit_count (map (λ (b : Filled). b.units) items) ≡ unit_count (map (λ (b : Filled). b.units) (items ++ b ∷ [])) =
+          omega (arith, ap unit_count (units_begun items b begun.empty), sum_by_push length (map (λ (b : Filled). b.units) items) []) in e)
+          ∙ ap (λ bs. at_most_64_bits (unit_count (map (λ (b : Filled). b.units) bs))) (sym new_is);
+    }
 
 counted_on : (a more : ℕ) → at_most_64_bits (at_most_64_bits a + more) ≡ at_most_64_bits (a + more)
 counted_on a more = omega arith
 
 -- `more` units were appended to the last buffer, which has room for `breaks` breaks
-pub AreChunks-appended : (items : List Filled) (number : ℕ) (old new : Filled) (units more total spare breaks : ℕ) → AreChunks items units spare → number + 1 ≡ length items
-    → old ≡ get_or items number old → length old.units + more ≡ length new.units → total ≡ at_most_64_bits (units + more) → breaks ≤ new.break_room
-    → AreChunks (set items number new) total breaks
-AreChunks-appended items number old new units more total spare breaks are last old_is grown total_is enough =
+pub AreChunks-appended : (items ready : List Filled) (number : ℕ) (old new : Filled) (units more total spare breaks places : ℕ)
+    → AreChunks items ready units spare places → number + 1 ≡ length items → old ≡ get_or items number old → length old.units + more ≡ length new.units
+    → total ≡ at_most_64_bits (units + more) → breaks ≤ new.break_room → breaks ≤ spare → AreChunks (set items number new) ready total breaks places
+AreChunks-appended items ready number old new units more total spare breaks places are last old_is grown total_is enough fewer =
     let inside : number < length items = omega (arith, last) in
     let bs : List (List ℕ) = map (λ b. b.units) items in
     let here : buffer_at bs number ≡ old.units = get_or-map (λ (b : Filled). b.units) items number old [] inside ∙ ap (λ (b : Filled). b.units) (sym old_is) in
@@ -207,7 +241,9 @@ AreChunks-appended items number old new units more total spare breaks are last o
     let count : unit_count (set bs number new.units) ≡ unit_count bs + more =
     omega (arith, sum_by-set length bs number new.units [] within, ap length here, grown) in record {
       breaks = omega (arith, enough, ap (λ b. b.break_room) (last_set items number new last));
+      full = AreReady-fewer ready spare breaks fewer are.full;
       few = omega (arith, are.few, length-set items number new);
+      place = are.place;
       total = total_is ∙ ap (λ n. at_most_64_bits (n + more)) are.total ∙ counted_on (unit_count bs) more ∙ ap at_most_64_bits (sym count)
           ∙ ap (λ ls. at_most_64_bits (unit_count ls)) (sym (map-set (λ (b : Filled). b.units) items number new));
     }

@@ -1,5 +1,6 @@
 -- Texts in buffers that are only appended to.
 use Rattle.std.specs.Prelude.{ℕ, ◌≡◌, ◌+◌, ◌-◌, ◌<◌, ◌≤◌, ◌^◌, List, [], length, take, drop, map, min, sum_by, slice_index_or}
+use Rattle.std.specs.List.{All}
 use Rattle.chunk_buffers.specs.declared.span.ChunkSpan.{ChunkSpan}
 use Rattle.chunk_buffers.specs.Buffer.{Filled, most_units, padded}
 
@@ -7,7 +8,9 @@ use Rattle.chunk_buffers.specs.Buffer.{Filled, most_units, padded}
 pub record Shown : Type 0 where
   -- the units of each buffer
   pub buffers : List (List ℕ)
-  -- the number of units that fit without an allocation; each text needs one more than its length
+  -- the number of units that fit in the last buffer; each text needs one more than its length
+  pub here : ℕ
+  -- the number of units that fit without an allocation, in the last buffer and those after it
   pub spare : ℕ
   -- the most breaks of these units
   pub spare_breaks : ℕ
@@ -15,6 +18,10 @@ pub record Shown : Type 0 where
 -- the most buffers: the index of each fits in 32 bits
 abbrev pub most_buffers : ℕ
 most_buffers = 2 ^ 32 - 1
+
+-- the most units of one append, with the unit that may keep it apart from the text before
+abbrev pub most_appended : ℕ
+most_appended = 2 ^ 31
 
 abbrev pub buffer_at : List (List ℕ) → ℕ → List ℕ
 buffer_at buffers number = slice_index_or buffers number []
@@ -42,6 +49,10 @@ pub record EndsLast (old new : List (List ℕ)) (span : ChunkSpan) (text : List 
   pub start : span.start ≡ length (padded (buffer_at old span.buffer) text)
   pub end : span.start + span.units ≡ length (buffer_at new span.buffer)
 
+-- so it is if the text fits in the last buffer, which has room for `here` units
+abbrev pub EndsLastIfHere : ℕ → List (List ℕ) → List (List ℕ) → ChunkSpan → List ℕ → Type 0
+EndsLastIfHere here old new span text = length text < here → EndsLast old new span text
+
 abbrev pub unit_count : List (List ℕ) → ℕ
 unit_count buffers = sum_by length buffers
 
@@ -57,9 +68,18 @@ part_of span from to = record { buffer = span.buffer; start = span.start + from;
 abbrev pub last_buffer : List Filled → Filled
 last_buffer buffers = slice_index_or buffers (length buffers - 1) (record { units = []; room = 0; break_room = 0 })
 
--- There are at most `most_buffers` buffers. `units` is their number of units, at most 2^64 - 1, and the last one has room for
--- `spare_breaks` breaks.
-pub record AreChunks (buffers : List Filled) (units spare_breaks : ℕ) : Type 0 where
+-- an empty buffer with room for as many units as a buffer may have, and for `few` breaks. A text that does not fit in the buffer before
+-- leaves fewer than `most_appended` units of that one unused, so that each such buffer adds `most_appended` units of room
+pub record IsReady (few : ℕ) (buffer : Filled) : Type 0 where
+  pub empty : buffer.units ≡ []
+  pub room : most_units ≤ buffer.room
+  pub breaks : few ≤ buffer.break_room
+
+-- There are at most `most_buffers` buffers, the ready ones among them; the list of buffers has room for `more`. `units` is
+-- the number of units, at most 2^64 - 1. The last buffer and the ready ones have room for `spare_breaks` breaks each.
+pub record AreChunks (buffers ready : List Filled) (units spare_breaks more : ℕ) : Type 0 where
   pub breaks : spare_breaks ≤ (last_buffer buffers).break_room
-  pub few : length buffers ≤ most_buffers
+  pub full : All (IsReady spare_breaks) ready
+  pub few : length buffers + length ready ≤ most_buffers
+  pub place : length ready ≤ more
   pub total : units ≡ at_most_64_bits (unit_count (map (λ b. b.units) buffers))

@@ -83,7 +83,8 @@ impl Buffer {
     }
 
     pub(crate) fn room(&self) -> usize
-        ensures { result ≡ self.now.room }
+        ensures room { result ≡ self.now.room }
+        ensures few { result ≤ most_units }
     {
         MOST_UNITS.min(self.units.capacity()) - self.units.len()
     }

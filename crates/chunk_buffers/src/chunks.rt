@@ -1,12 +1,14 @@
 //! The buffers together.
 
-ghost use Rattle.std.specs.Prelude.{◌≡◌, ◌+◌, ◌-◌, ◌<◌, ◌≤◌, ◌^◌, ◌++◌, [], length, take, drop, IfOk, OnOk, OnErr, IsTrue};
-ghost use Rattle.chunk_buffers.specs.Buffer.{breaks_to};
-ghost use Rattle.chunk_buffers.specs.Chunks.{units_at, LiesIn, Extends, EndsLast, unit_count, at_most_64_bits, part_of};
+ghost use Rattle.std.specs.Prelude.{◌≡◌, ◌+◌, ◌-◌, ◌*◌, ◌<◌, ◌≤◌, ◌^◌, ◌∷◌, ◌++◌, [], length, take, drop, IfOk, OnOk, OnErr, IsTrue};
+ghost use Rattle.std.specs.List.{All};
+ghost use Rattle.chunk_buffers.specs.Buffer.{most_units, breaks_to};
+ghost use Rattle.chunk_buffers.specs.Chunks.{units_at, LiesIn, Extends, EndsLast, EndsLastIfHere, IsReady, unit_count, most_appended, at_most_64_bits, part_of};
 ghost use Rattle.line_starts.specs.Starts.{break_count};
 ghost use Rattle.text_rules.specs.Lines.{line_start};
 
 use crate::buffer::{Buffer, MOST_UNITS};
+use crate::ready::{ready_buffers, ready_count};
 use crate::span::ChunkSpan;
 use std::alloc::{AllocError, Global};
 use std::marker::Model;
@@ -20,12 +22,17 @@ const MOST_ROOM: usize = 1 << 16;
 /// The most buffers: the index of each fits in 32 bits.
 const MOST_BUFFERS: usize = u32::MAX as usize;
 
+/// The most units of one append, with the unit that may keep it apart from the text before.
+pub const MOST_APPENDED: u64 = 1 << 31;
+
 /// Texts in buffers that are only appended to, so that the units of a span never change.
 ///
 /// A buffer is never moved: if the last one has no room for a text, a new one is begun.
 #[derive(Drop)]
 pub struct Chunks {
     buffers: Vec<Buffer>,
+    /// Empty buffers with room for `MOST_UNITS` units, for texts that do not fit in the last one. `buffers` has room for them.
+    ready: Vec<Buffer>,
     /// The number of units in all buffers, at most 2^64 - 1.
     units: u64,
     /// The number of breaks for which there is room.
@@ -34,18 +41,20 @@ pub struct Chunks {
 }
 
 impl Model for Chunks {
-    ghost use Rattle.std.specs.Prelude.{map};
-    ghost use Rattle.chunk_buffers.specs.Chunks.{Shown, AreChunks, last_buffer};
+    ghost use Rattle.std.specs.Prelude.{◌+◌, ◌-◌, ◌*◌, length, map, vec_len, vec_capacity};
+    ghost use Rattle.chunk_buffers.specs.Chunks.{Shown, AreChunks, most_appended, last_buffer};
 
     ghost Value = { Shown };
 
     ghost view = { λ c. record {
       buffers = map (λ b. b.units) c.buffers.items;
-      spare = (last_buffer c.buffers.items).room;
+      here = (last_buffer c.buffers.items).room;
+      spare = (last_buffer c.buffers.items).room + most_appended * length c.ready.items;
       spare_breaks = c.spare_breaks;
     } };
 
-    ghost invariant = { λ c. AreChunks c.buffers.items c.units c.spare_breaks };
+    ghost invariant = { λ c. AreChunks c.buffers.items c.ready.items c.units c.spare_breaks
+        (vec_capacity c.buffers - vec_len c.buffers) };
 }
 
 impl Chunks {
@@ -56,6 +65,7 @@ impl Chunks {
     {
         Chunks {
             buffers: Vec::new(alloc),
+            ready: Vec::new(alloc),
             units: 0,
             spare_breaks: 0,
             alloc,
@@ -70,8 +80,7 @@ impl Chunks {
     }
 
     /// Makes room for `units` units and `breaks` breaks. Each appended text needs room for one unit more than its length. Fails if memory
-    /// is short, if `units` exceeds what one buffer holds, or if there are already 2^32 - 1 buffers and a new one is needed. On an error
-    /// nothing changes.
+    /// is short, or if there are too many buffers: at most 2^32 - 1. On an error nothing changes.
     pub fn reserve(&mut self, units: u64, breaks: u64) -> Result<(), AllocError>
         ensures ok { OnOk result (units ≤ self.new.spare) }
         ensures breaks { OnOk result (breaks ≤ self.new.spare_breaks) }
@@ -81,47 +90,85 @@ impl Chunks {
         ensures kept_breaks { self.old.spare_breaks ≤ self.new.spare_breaks }
         ensures err { OnErr result (self.new ≡ self.old) }
     {
-        let units = units as usize;
-        if units > self.room() {
-            return self.begin_buffer(units, breaks.max(self.spare_breaks));
+        if self.has_room(units, breaks) {
+            return Ok(());
+        }
+        let units = units.max(self.spare());
+        let breaks = breaks.max(self.spare_breaks);
+        if self.ready.is_empty() && units <= MOST_UNITS as u64 {
+            return self.reserve_here(units as usize, breaks);
+        }
+        self.begin_buffers(units, breaks)
+    }
+
+    // Makes room for `units` units and `breaks` breaks in the last buffer, or in a new one.
+    fn reserve_here(&mut self, units: usize, breaks: u64) -> Result<(), AllocError>
+        requires alone { self.old.spare ≡ self.old.here }
+        requires kept { self.old.spare_breaks ≤ breaks }
+        requires more { self.old.spare ≤ units }
+        ensures ok { OnOk result (units ≤ self.new.spare) }
+        ensures breaks { OnOk result (breaks ≤ self.new.spare_breaks) }
+        ensures same { Extends self.old.buffers self.new.buffers }
+        ensures units { unit_count self.new.buffers ≡ unit_count self.old.buffers }
+        ensures err { OnErr result (self.new ≡ self.old) }
+    {
+        if units > self.room() || self.buffers.is_empty() {
+            let room = units.max(self.usual_room());
+            return self.begin_buffer(room, breaks, Vec::new(self.alloc));
         }
         self.reserve_breaks(breaks)
     }
 
-    // Makes room for `breaks` breaks in the last buffer, or in a new one if there is none.
+    // Makes room for `breaks` breaks in the last buffer.
     fn reserve_breaks(&mut self, breaks: u64) -> Result<(), AllocError>
+        requires alone { self.old.spare ≡ self.old.here }
+        requires some { 0 < length self.old.buffers }
+        requires kept { self.old.spare_breaks ≤ breaks }
         ensures breaks { OnOk result (breaks ≤ self.new.spare_breaks) }
-        ensures same { Extends self.old.buffers self.new.buffers }
-        ensures units { unit_count self.new.buffers ≡ unit_count self.old.buffers }
-        ensures kept { self.old.spare ≤ self.new.spare }
-        ensures kept_breaks { self.old.spare_breaks ≤ self.new.spare_breaks }
+        ensures same { self.new.buffers ≡ self.old.buffers }
+        ensures spare { self.new.spare ≡ self.old.spare }
         ensures err { OnErr result (self.new ≡ self.old) }
     {
-        if breaks <= self.spare_breaks {
-            return Ok(());
-        }
-        let Some(number) = self.buffers.len().checked_sub(1) else {
-            return self.begin_buffer(0, breaks);
-        };
+        let number = self.buffers.len() - 1;
         self.buffers[number].reserve_breaks(breaks as usize)?;
         self.spare_breaks = breaks;
         Ok(())
     }
 
-    // Begins a buffer with room for at least `units` units, and for `breaks` breaks.
-    fn begin_buffer(&mut self, units: usize, breaks: u64) -> Result<(), AllocError>
-        ensures room { OnOk result (units ≤ self.new.spare) }
+    // Begins a buffer with room for `MOST_UNITS` units, and makes as many more ready as `units` units need.
+    fn begin_buffers(&mut self, units: u64, breaks: u64) -> Result<(), AllocError>
+        ensures ok { OnOk result (units ≤ self.new.spare) }
         ensures breaks { OnOk result (self.new.spare_breaks ≡ breaks) }
         ensures same { Extends self.old.buffers self.new.buffers }
         ensures units { unit_count self.new.buffers ≡ unit_count self.old.buffers }
         ensures err { OnErr result (self.new ≡ self.old) }
     {
-        let room = units.max(self.usual_room());
-        let buffer = Buffer::with_room(self.alloc, room, breaks as usize)?;
-        if self.buffers.len() == MOST_BUFFERS {
+        let ready = ready_buffers(self.alloc, ready_count(units), breaks)?;
+        self.begin_buffer(MOST_UNITS, breaks, ready)
+    }
+
+    // Begins a buffer with room for `units` units and `breaks` breaks, which the buffers in `ready` follow.
+    fn begin_buffer(
+        &mut self,
+        units: usize,
+        breaks: u64,
+        ready: Vec<Buffer>,
+    ) -> Result<(), AllocError>
+        requires ready { All (IsReady breaks) ready.items }
+        ensures spare { OnOk result
+            (units + most_appended * length ready.items ≤ self.new.spare) }
+        ensures breaks { OnOk result (self.new.spare_breaks ≡ breaks) }
+        ensures same { Extends self.old.buffers self.new.buffers }
+        ensures units { unit_count self.new.buffers ≡ unit_count self.old.buffers }
+        ensures err { OnErr result (self.new ≡ self.old) }
+    {
+        let buffer = Buffer::with_room(self.alloc, units, breaks as usize)?;
+        if self.buffers.len() + ready.len() >= MOST_BUFFERS {
             return Err(AllocError);
         }
-        self.buffers.push(buffer)?;
+        self.buffers.reserve(ready.len() + 1)?;
+        self.buffers.push_reserved(buffer);
+        self.ready = ready;
         self.spare_breaks = breaks;
         Ok(())
     }
@@ -143,12 +190,20 @@ impl Chunks {
         ensures { IsTrue result
             → (units ≤ self.now.spare) × (breaks ≤ self.now.spare_breaks) }
     {
-        units <= self.room() as u64 && breaks <= self.spare_breaks
+        units <= self.spare() && breaks <= self.spare_breaks
+    }
+
+    // Returns the number of units that fit without an allocation.
+    fn spare(&self) -> u64
+        ensures { result ≡ self.now.spare }
+    {
+        self.room() as u64 + MOST_APPENDED * self.ready.len() as u64
     }
 
     // Returns the room of the last buffer; 0 if there is none.
     fn room(&self) -> usize
-        ensures { result ≡ self.now.spare }
+        ensures here { result ≡ self.now.here }
+        ensures few { result ≤ most_units }
     {
         match self.buffers.last() {
             Some(buffer) => buffer.room(),
@@ -159,6 +214,45 @@ impl Chunks {
     /// Appends the three texts as one, and returns its span and its number of breaks. Allocates nothing.
     pub fn append_joined(&mut self, before: &[u16], text: &[u16], after: &[u16]) -> (ChunkSpan, u32)
         requires room { length (before.now ++ text.now ++ after.now) < self.old.spare }
+        requires short { length (before.now ++ text.now ++ after.now) < most_appended }
+        requires breaks { break_count (before.now ++ text.now ++ after.now)
+            ≤ self.old.spare_breaks }
+        ensures shown { units_at self.new.buffers result.0 ≡ before.now ++ text.now ++ after.now }
+        ensures inside { LiesIn self.new.buffers result.0 }
+        ensures breaks { result.1 ≡ break_count (before.now ++ text.now ++ after.now) }
+        ensures grown { Extends self.old.buffers self.new.buffers }
+        ensures units { unit_count self.new.buffers
+            ≤ unit_count self.old.buffers + length (before.now ++ text.now ++ after.now) + 1 }
+        ensures spare { self.old.spare
+            ≤ self.new.spare + length (before.now ++ text.now ++ after.now) + 1 }
+        ensures spare_breaks { self.old.spare_breaks
+            ≤ self.new.spare_breaks + break_count (before.now ++ text.now ++ after.now) }
+        ensures last { EndsLastIfHere self.old.here self.old.buffers self.new.buffers result.0
+            (before.now ++ text.now ++ after.now) }
+    {
+        if before.len() + text.len() + after.len() >= self.room() {
+            self.begin_ready();
+        }
+        self.append_last(before, text, after)
+    }
+
+    // Makes one of the buffers that are ready the last one.
+    fn begin_ready(&mut self)
+        requires some { self.old.here < self.old.spare }
+        ensures here { most_units ≤ self.new.here }
+        ensures spare { self.old.spare + self.new.here
+            ≡ self.new.spare + self.old.here + most_appended }
+        ensures breaks { self.new.spare_breaks ≡ self.old.spare_breaks }
+        ensures buffers { self.new.buffers ≡ self.old.buffers ++ [] ∷ [] }
+    {
+        if let Some(buffer) = self.ready.pop() {
+            self.buffers.push_reserved(buffer);
+        }
+    }
+
+    // Appends the three texts as one to the last buffer.
+    fn append_last(&mut self, before: &[u16], text: &[u16], after: &[u16]) -> (ChunkSpan, u32)
+        requires room { length (before.now ++ text.now ++ after.now) < self.old.here }
         requires breaks { break_count (before.now ++ text.now ++ after.now)
             ≤ self.old.spare_breaks }
         ensures shown { units_at self.new.buffers result.0 ≡ before.now ++ text.now ++ after.now }
@@ -205,10 +299,11 @@ impl Chunks {
         let buffer = Buffer::of_vec(self.alloc, text)?;
         let breaks = buffer.break_count();
         let number = self.buffers.len();
-        if number == MOST_BUFFERS {
+        if number + self.ready.len() >= MOST_BUFFERS {
             return Err(AllocError);
         }
-        self.buffers.push(buffer)?;
+        self.buffers.reserve(self.ready.len() + 1)?;
+        self.buffers.push_reserved(buffer);
         self.units = self.units.saturating_add(len as u64);
         self.spare_breaks = 0;
         let span = ChunkSpan {

@@ -3,7 +3,8 @@
 
 mod buffer;
 mod chunks;
+mod ready;
 mod span;
 
-pub use chunks::Chunks;
+pub use chunks::{Chunks, MOST_APPENDED};
 pub use span::ChunkSpan;

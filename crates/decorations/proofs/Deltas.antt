@@ -1,5 +1,5 @@
 -- When a change is refused, and what it leaves.
-use Rattle.std.proofs.Common.{◌≡◌, ℕ, ◌+◌, ◌-◌, ◌<◌, ◌≤◌, true, false, not, ◌||◌, if◌then◌else◌, ltb, eqb, List, [], ◌∷◌, ◌++◌, length, Result, Ok, Err, refl, sym, ◌∙◌, ap, subst, arith}
+use Rattle.std.proofs.Common.{◌≡◌, ℕ, ◌+◌, ◌-◌, ◌^◌, ◌<◌, ◌≤◌, true, false, not, ◌||◌, if◌then◌else◌, ltb, eqb, List, [], ◌∷◌, ◌++◌, length, Result, Ok, Err, refl, sym, ◌∙◌, ap, subst, arith}
 use Rattle.std.specs.Prelude.{IsOk}
 use Rattle.std.specs.List.{All, list_any, list_all}
 use Rattle.std.proofs.lemmas.Bool.{cond-true, cond-false, or_parts, or_left, not-false, both_ways, ltb-false}
@@ -14,9 +14,11 @@ use Rattle.decoration_rules.specs.Marks.{in_order, IsInOrder, HasDistinctIds}
 use Rattle.decoration_rules.specs.Decorations.{Decorations, IsSound, decorated, is_unknown, is_bad, is_too_much, kept, new_marks, owns, has_repeat, most_decorations, greatest_id}
 use Rattle.decoration_rules.proofs.MarkLists.{All-in_order, IsInOrder-in_order, IsInOrder-filter, distinct_in_order, distinct_filter, length-in_order}
 use Rattle.decoration_rules.proofs.InText.{IsNewIn, IsNewIn-from_good, LieIn-new_marks, IsAccepted, accepted}
+use Rattle.decorations.specs.Owners.{Counts, count_in, Tells, Recounts}
 use Rattle.decorations.specs.Set.{IsNew}
 use Rattle.decorations.proofs.Removed.{all_live-owned, list_any-not, length-kept}
 use Rattle.decorations.proofs.Added.{AreAdded, Below, added, length-new_marks}
+use Rattle.decorations.proofs.Counted.{count-kept, count-le-length, count_in-told, Tells-recounted}
 
 -- Refusals.
 
@@ -104,6 +106,12 @@ fit-from_ok d owner ids add kind units is =
       last = ltb-false greatest_id (d.next_id + length add - 1) limits.1;
     }
 
+-- the same, of the fields of a set whose view the rule accepts
+pub fit-from_view : (d now : Decorations) → d ≡ now → (owner : ℕ) (ids : List ℕ) (add : List NewDeco) (kind : Kind) (units : List ℕ) → IsOk (decorated now owner ids add kind units)
+    → IsFit d owner ids add kind units
+fit-from_view d now same owner ids add kind units is =
+    fit-from_ok d owner ids add kind units (subst (λ (set : Decorations). IsOk (decorated set owner ids add kind units)) (sym same) is)
+
 pub kept-ordered : (marks : List Mark) (ids : List ℕ) → IsInOrder marks → IsInOrder (kept marks ids)
 kept-ordered marks ids ordered = IsInOrder-filter (λ mark. not (list_any (λ id. eqb mark.id id) ids)) marks ordered
 
@@ -122,15 +130,16 @@ all_new kind units (new ∷ more) small good =
     (record { upright = is_in.span.upright; small = omega (arith, is_in.span.within, small); mode = is_in.mode })
     (all_new kind units more small parts.1)
 
+all_added : (d : Decorations) (owner : ℕ) (ids : List ℕ) (add : List NewDeco) → IsSound d → AreAdded (kept d.marks ids ++ new_marks owner d.next_id add) (d.next_id + length add)
+all_added d owner ids add sound =
+    added owner d.next_id add (kept d.marks ids)
+    (record { distinct = kept-distinct d.marks ids sound.distinct; used = kept-below d.next_id d.marks ids sound.used })
+
 pub IsSound-delta : (d : Decorations) (owner : ℕ) (ids : List ℕ) (add : List NewDeco) (kind : Kind) (units : List ℕ) → IsSound d → IsFit d owner ids add kind units
     → IsSound (record { marks = in_order (kept d.marks ids ++ new_marks owner d.next_id add); next_id = d.next_id + length add })
 IsSound-delta d owner ids add kind units sound fit =
     let stays = λ (mark : Mark). not (list_any (λ id. eqb mark.id id) ids) in
-    let left : AreAdded (kept d.marks ids) d.next_id = record {
-      distinct = distinct_filter stays d.marks sound.distinct;
-      used = All-filter stays (λ (mark : Mark). mark.id < d.next_id) d.marks sound.used;
-    } in
-    let all : AreAdded (kept d.marks ids ++ new_marks owner d.next_id add) (d.next_id + length add) = added owner d.next_id add (kept d.marks ids) left in
+    let all : AreAdded (kept d.marks ids ++ new_marks owner d.next_id add) (d.next_id + length add) = all_added d owner ids add sound in
     record {
       ordered = IsInOrder-in_order (kept d.marks ids ++ new_marks owner d.next_id add) all.distinct;
       distinct = distinct_in_order (kept d.marks ids ++ new_marks owner d.next_id add) all.distinct;
@@ -150,3 +159,24 @@ IsSound-delta d owner ids add kind units sound fit =
       first = omega (arith, sound.first);
       last = omega (arith, fit.last, sound.first);
     }
+
+-- The number of the owner's decorations.
+
+module _ (d : Decorations) (owner : ℕ) (ids : List ℕ) (add : List NewDeco) (kind : Kind) (units : List ℕ) (sound : IsSound d) (fit : IsFit d owner ids add kind units)
+    (counts : Counts) (tells : Tells counts d.marks) where
+  pub named-within : length ids ≤ count_in counts owner
+  named-within = omega (arith, count-kept d.marks owner ids sound.distinct fit.owned fit.once, count_in-told counts d.marks owner tells)
+
+  pub count-fits : count_in counts owner - length ids + length add < 2 ^ 64
+  count-fits =
+      omega (
+        arith,
+        count-kept d.marks owner ids sound.distinct fit.owned fit.once,
+        count_in-told counts d.marks owner tells,
+        count-le-length owner (kept d.marks ids),
+        fit.few,
+      )
+
+  pub Tells-delta : (new : Counts) → Recounts counts new owner (length ids) (length add) → Tells new (in_order (kept d.marks ids ++ new_marks owner d.next_id add))
+  Tells-delta new recounts =
+      Tells-recounted counts new d.marks owner d.next_id ids add sound.distinct (all_added d owner ids add sound).distinct fit.owned fit.once tells recounts

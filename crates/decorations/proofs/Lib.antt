@@ -1,5 +1,6 @@
 mod Repeats
 mod Removed
 mod Added
+mod Counted
 mod Sets
 mod Deltas

@@ -2,6 +2,7 @@
 #![tactic(auto)]
 
 mod changes;
+mod owners;
 mod set;
 
 pub use decoration_rules::{Deco, DecoError, Edit, LineMove, NewDeco};

@@ -1,6 +1,6 @@
 //! The set of decorations.
 
-ghost use Rattle.std.specs.Prelude.{◌≡◌, ◌≤◌, ◌<◌, ◌^◌, ◌++◌, length, map, take, vec_len, IsOk, OnOk, OnErr, IfErr};
+ghost use Rattle.std.specs.Prelude.{◌≡◌, ◌≤◌, ◌<◌, ◌^◌, ◌++◌, ◌↔◌, [], length, map, take, vec_len, IsOk, OnOk, OnErr, IfErr, IsTrue};
 ghost use Rattle.std.specs.List.{All, filter};
 ghost use Rattle.decoration_rules.specs.Moves.{offset_limit, moved_mark};
 ghost use Rattle.decoration_rules.specs.Lines.{AreLineMoves, carried_with_lines};
@@ -8,6 +8,7 @@ ghost use Rattle.decoration_rules.specs.Marks.{in_order};
 ghost use Rattle.decoration_rules.specs.Decorations.{no_decorations, IsSound, deco_of, deco_at, is_of, decos_in, decorated, RefusedFor, Decorates};
 
 use crate::changes::{add_all, any_is_bad, is_too_much, named_once, owns_all, remove_all};
+use crate::owners::Owners;
 use decoration_rules::{Deco, DecoError, Edit, LineMove, Mark, NewDeco};
 use interval_deltas::IntervalTree;
 use std::alloc::{AllocError, Global};
@@ -20,18 +21,22 @@ use unit_text::Flat;
 pub struct DecoSet {
     alloc: Global,
     tree: IntervalTree,
+    /// The number of decorations of each owner.
+    owners: Owners,
     /// The next id. Ids count from 1, and none is used again.
     next_id: u64,
 }
 
 impl Model for DecoSet {
     ghost use Rattle.decoration_rules.specs.Decorations.{Decorations, IsSound};
+    ghost use Rattle.decorations.specs.Owners.{Tells};
 
     ghost Value = { Decorations };
 
     ghost view = { λ s. record { marks = s.tree.marks; next_id = s.next_id } };
 
-    ghost invariant = { λ s. IsSound (record { marks = s.tree.marks; next_id = s.next_id }) };
+    ghost invariant = { λ s. IsSound (record { marks = s.tree.marks; next_id = s.next_id })
+        × Tells s.owners.counts s.tree.marks };
 }
 
 impl DecoSet {
@@ -42,6 +47,7 @@ impl DecoSet {
         DecoSet {
             alloc,
             tree: IntervalTree::new(alloc),
+            owners: Owners::new(alloc),
             next_id: 1,
         }
     }
@@ -65,8 +71,10 @@ impl DecoSet {
         let first = self.next_id;
         let added = add.len() as u64;
         self.tree.reserve(added).map_err(|_| DecoError::Memory)?;
+        self.owners.make_room(added).map_err(|_| DecoError::Memory)?;
         remove_all(&mut self.tree, remove);
         add_all(&mut self.tree, owner, first, add);
+        self.owners.recount(owner, remove.len() as u64, added);
         self.next_id = first + added;
         Ok(first)
     }
@@ -102,6 +110,7 @@ impl DecoSet {
     }
 
     /// Appends the decorations that overlap the span or touch it: all of them, or those of one owner. On an error `out` is unchanged.
+    /// For an owner that has none it returns at once.
     pub fn in_range(
         &self,
         span: Span,
@@ -111,6 +120,9 @@ impl DecoSet {
         ensures ok { OnOk result (out.new.items ≡ out.old.items ++ decos_in self.now span owner) }
         ensures err { OnErr result (out.new.items ≡ out.old.items) }
     {
+        if self.lacks(owner) {
+            return Ok(());
+        }
         let mut found = Vec::new(self.alloc);
         self.tree.search(span, &mut found)?;
         let before = out.len();
@@ -119,6 +131,16 @@ impl DecoSet {
             out.truncate(before);
         }
         pushed
+    }
+
+    /// Returns whether there are no decorations of this owner; for None, whether there are none at all.
+    fn lacks(&self, owner: Option<u64>) -> bool
+        ensures { IsTrue result ↔ (filter (is_of owner) self.now.marks ≡ []) }
+    {
+        match owner {
+            Some(owner) => !self.owners.has(owner),
+            None => self.tree.len() == 0,
+        }
     }
 
     /// Returns the live decoration of this id; None if there is none.

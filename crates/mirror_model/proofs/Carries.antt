@@ -13,7 +13,7 @@ use Rattle.batch_rules.specs.Batches.{most_units, applied_from, text_units, Stan
 use Rattle.batch_rules.specs.Events.{is_misfit, first_misfit, after_batches}
 use Rattle.batch_rules.proofs.Standing.{text_units_applied}
 use Rattle.edit_batches.proofs.Lengths.{standing_below}
-use Rattle.text_batches.specs.Needs.{text_breaks, need_of_ops, need_of_batches}
+use Rattle.text_batches.specs.Needs.{edit_count, text_breaks, need_of_ops, need_of_batches}
 
 -- the first of batches that fit, and those after it
 pub record IsFit (x : List ℕ) (ops : List Op) (rest : List (List Op)) : Type 0 where
@@ -70,8 +70,8 @@ module _ (old : List ℕ) (batches : List (List Op)) (now : Text) where
     pub first_texts : FollowFrom 0 ops → text_units ops ≤ most_units
     first_texts follow = fit_texts now.units ops first_fits.fits follow
 
-    need_edits : (need_of_batches (ops ∷ rest)).edits ≡ length ops + (need_of_batches rest).edits
-    need_edits = sum_by-cons {X = List Op} length ops rest
+    need_edits : (need_of_batches (ops ∷ rest)).edits ≡ edit_count ops + (need_of_batches rest).edits
+    need_edits = sum_by-cons {X = List Op} edit_count ops rest
 
     need_units : (need_of_batches (ops ∷ rest)).units ≡ text_units ops + (need_of_batches rest).units
     need_units = sum_by-cons {X = List Op} text_units ops rest

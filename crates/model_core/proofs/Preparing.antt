@@ -22,19 +22,20 @@ use Rattle.document_rules.specs.Refusals.{FlatRefusal}
 use Rattle.document_rules.specs.Document.{FlatText, FlatChange, FlatState, text_now, greatest_version, after_batch, edited_by, flat_edit, is_same_kind, flat_eol}
 use Rattle.document_rules.specs.Paired.{IsPairedState}
 use Rattle.document_rules.proofs.PairedStates.{IsPairedState-edit, IsPairedState-eol}
-use Rattle.text_batches.specs.Needs.{need_of_ops}
+use Rattle.text_batches.specs.Needs.{edit_count, need_of_ops}
 use Rattle.model_page.specs.declared.change.Way.{Way}
 use Rattle.model_page.specs.declared.change.Way.TheVariants.{Back, On}
 use Rattle.model_core.specs.declared.ready.Action.{Action}
 use Rattle.model_core.specs.declared.ready.Action.TheVariants.{Make, Move}
 use Rattle.model_core.specs.State.{ModelState, KeepsRoom, KeepsParse, Leaves}
 use Rattle.model_core.specs.Ways.{next_steps}
+use Rattle.text_buffer.specs.Room.{part_count}
 use Rattle.text_buffer.specs.Room as text_room
 use Rattle.text_buffer.specs.declared.room.Need as text_need
 use Rattle.model_page.specs.Changes.{ops_by}
 use Rattle.model_page.specs.LineMarks.{marked_backwards}
 use Rattle.model_core.specs.Edited.{ops_as_done, marks_edited, HasEdited, HasRecast}
-use Rattle.model_core.specs.Prepared.{Prepared, IsEnough, need_of, next_op_count, next_unit_count, next_break_count, IsRecastOf, IsChangeOf, CanAct, CanCommit, Acts, HasActed, ArePairedTexts, batch_of, recast_of, IsEditReady, IsEolReady, IsMoveReady}
+use Rattle.model_core.specs.Prepared.{Prepared, IsEnough, need_of, next_edit_count, next_unit_count, next_break_count, IsRecastOf, IsChangeOf, CanAct, CanCommit, Acts, HasActed, ArePairedTexts, batch_of, recast_of, IsEditReady, IsEolReady, IsMoveReady}
 use Rattle.model_core.proofs.Editing.{edited_paired}
 use Rattle.model_core.proofs.Leaving.{leaves_from, leaves_as}
 use Rattle.model_core.proofs.Stepping.{IsPairedState-by}
@@ -150,14 +151,14 @@ pub record IsEdited (ops : List Op) (old new : ModelState) : Type 0 where
 -- by other line endings that are set where they were prepared
 pub record IsRecast (kind : Kind) (old new : ModelState) : Type 0 where
   pub document : flat_eol old.document kind ≡ Ok (Some new.document)
-  pub parse : HasRecast (Ok true) old new
+  pub parse : HasRecast kind (Ok true) old new
 
 -- the ops of a batch as they were prepared
 pub edits_leave : (ops : List Op) (mid new : ModelState) → HasActed (batch_of mid.document (ops_as_done mid.document ops)) mid new
-    → Leaves (length ops) (length ops) (marks_edited mid ops) mid new
+    → Leaves (edit_count (ops_as_done mid.document ops)) (length ops) (marks_edited mid ops) mid new
 edits_leave ops mid new left =
     let count = length-as_done mid.document ops in
-    leaves_as _ (length ops) _ (length ops) _ (marks_edited mid ops) mid new count count refl left
+    leaves_as _ (edit_count (ops_as_done mid.document ops)) _ (length ops) _ (marks_edited mid ops) mid new refl count refl left
 
 module _ (old mid new : ModelState) (ready : Prepared) (same : mid.document ≡ old.document) (kept : KeepsParse old mid)
     (done : Acts ready.action mid.document new.document) (acted : HasActed ready.action mid new) where
@@ -180,8 +181,9 @@ module _ (old mid new : ModelState) (ready : Prepared) (same : mid.document ≡ 
         document = ap (λ g. flat_edit g ops) (sym same) ∙ sym again ∙ made;
         paired = λ paired texts.
             subst IsPaired (sym units) (edited_paired (text_now f) ops sorted rule (subst (λ (g : FlatState). IsPaired g.units) (sym same) paired) texts);
-        parse = leaves_from (length ops) (length ops) (marks_edited old ops) old mid new kept
-            (subst (λ m. Leaves (length ops) (length ops) m mid new) marks (edits_leave ops mid new left));
+        parse = leaves_from (edit_count (ops_as_done old.document ops)) (length ops) (marks_edited old ops) old mid new kept
+            (leaves_as _ (edit_count (ops_as_done old.document ops)) _ (length ops) _ (marks_edited old ops) mid new
+            (ap (λ (g : FlatState). edit_count (ops_as_done g ops)) same) refl marks (edits_leave ops mid new left));
       }
 
   pub recast_as_prepared : (kind : Kind) → IsEolReady kind mid ready → IsRecast kind old new
@@ -191,7 +193,9 @@ module _ (old mid new : ModelState) (ready : Prepared) (same : mid.document ≡ 
       let left : HasActed action mid new = subst (λ a. HasActed a mid new) is.action acted in
       record {
         document = ap (λ g. flat_eol g kind) (sym same) ∙ made;
-        parse = leaves_from 1 0 old.marks old mid new kept (subst (λ m. Leaves 1 0 m mid new) kept.marks left);
+        parse = leaves_from (part_count (normalized kind old.document.units)) 0 old.marks old mid new kept
+            (leaves_as (need_of action mid.document).text.edits (part_count (normalized kind old.document.units)) _ 0 _ old.marks mid new
+            (omega (arith, ap (λ (g : FlatState). part_count (normalized kind g.units)) same)) refl kept.marks left);
       }
 
 -- ---- calls between, which leave the text, the version, the steps and the room
@@ -229,7 +233,7 @@ enough_room (Make change) old new same kept room = record {
 }
 enough_room (Move way) old new same kept room =
     let steps = same_steps way old.document new.document same in
-    let edits = ap next_op_count steps in
+    let edits = ap (next_edit_count way) steps in
     let units = ap (next_unit_count way) steps in
     let breaks = ap (next_break_count way) steps in
     let still = still_enough _ old.room.text new.room.text kept.text room.text in

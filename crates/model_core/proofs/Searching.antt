@@ -12,6 +12,7 @@ use Rattle.search_rules.proofs.Replacing.{replace_refusal, made_as_edit, refused
 use Rattle.model_page.specs.LineMarks.{marked_backwards}
 use Rattle.model_core.specs.Edited.{ops_as_done}
 use Rattle.model_core.specs.Prepared.{Prepared, Acts, ActsAlone, HasActed}
+use Rattle.text_batches.specs.Needs.{edit_count}
 use Rattle.model_core.specs.Replaced.{IsForRoom, replacing_ops, HasReplaced, IsReplaceReady}
 use Rattle.model_core.specs.State.{ModelState, KeepsParse}
 use Rattle.model_core.proofs.Leaving.{leaves_from, leaves_as}
@@ -68,9 +69,11 @@ module _ (mid new : ModelState) (ready : Prepared) (alone : ActsAlone ready.acti
       let there = carried_out sought text is in
       let ops : List Op = replacing_ops old.document sought text in
       let count = ap (λ g. length (replacing_ops g sought text)) same in
+      let edits = ap (λ (g : FlatState). edit_count (ops_as_done g (replacing_ops g sought text))) same in
       let marks = ap (λ (g : FlatState). marked_backwards g.units (ops_as_done g (replacing_ops g sought text)) mid.marks) same
       ∙ ap (marked_backwards old.document.units (ops_as_done old.document ops)) before.marks in
       record {
         document = ap (λ g. flat_replace_all g sought text) (sym same) ∙ there.document;
-        parse = leaves_from (length ops) (length ops) _ old mid new before (leaves_as _ (length ops) _ (length ops) _ _ mid new count count marks there.parse);
+        parse = leaves_from (edit_count (ops_as_done old.document ops)) (length ops) _ old mid new before
+            (leaves_as _ (edit_count (ops_as_done old.document ops)) _ (length ops) _ _ mid new edits count marks there.parse);
       }

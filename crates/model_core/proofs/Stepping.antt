@@ -15,7 +15,7 @@ use Rattle.document_rules.proofs.PairedStates.{IsPairedState-undo, IsPairedState
 use Rattle.document_rules.specs.Refusals.{limit}
 use Rattle.snapshot_rules.specs.Snapshots.{FlatShelf}
 use Rattle.document_rules.specs.Document.{FlatText, FlatChange, FlatState, greatest_version, batches_back, batches_on, edits_back, all_edits_back, all_edits_on}
-use Rattle.text_batches.specs.Needs.{text_breaks}
+use Rattle.text_batches.specs.Needs.{edit_count, text_breaks}
 use Rattle.model_page.specs.declared.change.Change.{Change}
 use Rattle.model_page.specs.declared.change.Change.TheVariants.{Ops, Endings}
 use Rattle.model_page.specs.declared.change.Way.{Way}
@@ -24,16 +24,16 @@ use Rattle.model_core.specs.Ways.{next_steps, passed, alternative_after, flat_mo
 use Rattle.model_page.specs.Ways.{text_by, changes_by, LeadBy, decorations_by, batches_by, marked_along}
 use Rattle.model_page.specs.InTurn.{edits_along, all_edits_along}
 use Rattle.model_page.specs.LineMarks.{marked_step}
-use Rattle.model_core.specs.Prepared.{ops_along, next_op_count, deed_marking, next_marking_count, next_unit_count, next_break_count}
+use Rattle.model_core.specs.Prepared.{ops_along, next_edit_count, deed_marking, next_marking_count, next_unit_count, next_break_count}
 use Rattle.batch_rules.specs.Events.{whole_op}
 use Rattle.model_page.specs.Changes.{ops_by, led, deed_of, text_back, changes_back, changes_on, Leads, LeadBack, LeadOn}
-use Rattle.model_page.specs.Counts.{op_count, unit_count, breaks_along, marking_ops, marking_count}
+use Rattle.model_page.specs.Counts.{edit_count_along, unit_count, breaks_along, marking_ops, marking_count}
 use Rattle.model_core.specs.History.{undo_steps, redo_steps, history_of, latest_along, latest_steps, last_of, IsHistory}
 use Rattle.model_core.specs.declared.latest.Latest.{Latest}
 use Rattle.hiding_rules.specs.Hidden.{Scanner}
 use Rattle.decoration_rules.specs.Decorations.{Decorations}
 use Rattle.mark_rules.specs.declared.Mark.{Mark}
-use Rattle.model_page.proofs.Turns.{op_count-cons, marking_count-cons}
+use Rattle.model_page.proofs.Turns.{marking_count-cons}
 use Rattle.model_page.proofs.EditsAlong.{same_edits_on, same_edits_back}
 use Rattle.model_page.proofs.Carries.{carried_back-kept, carried_on-kept}
 use Rattle.model_core.proofs.Histories.{text_before-back, text_after-on, history-undone, IsHistory-undone, history-redone, IsHistory-redone}
@@ -127,16 +127,7 @@ measured_on measure before (c ∷ cs) lead =
     let same : measure (ops_along On first) ≡ measure (ops_by On c) = ap measure (same_ops_on before after c lead.0) in
     omega (arith, sum_by-cons {X = FlatChange} (λ change. measure (ops_along On change)) first (changes_on after cs), sum_by-cons {X = Change} (λ d. measure (ops_by On d)) c cs, same, measured_on measure after cs lead.1)
 
--- a step has as many ops on the way back as on the way on
-ops_back : (after : FlatText) (cs : List Change) → LeadBack after cs → sum_by (λ (change : FlatChange). length (ops_along On change)) (changes_back after cs) ≡ op_count Back cs
-ops_back after [] lead = refl
-ops_back after (c ∷ cs) lead =
-    let first : FlatChange = record { before = text_back after (c ∷ cs); deed = deed_of c; after = text_back after cs } in
-    let on = ap length (same_ops_on (text_back after (c ∷ cs)) (text_back after cs) c lead.0) in
-    let same = as_many (text_back after (c ∷ cs)) (text_back after cs) c lead.0 in
-    omega (arith, sum_by-cons {X = FlatChange} (λ change. length (ops_along On change)) first (changes_back after cs), op_count-cons Back c cs, on, same, ops_back after cs lead.1)
-
--- and as many of them mark lines
+-- as many of its ops mark lines on the way back
 marking_at_back : (before after : FlatText) (c : Change) → Leads before c after → deed_marking (deed_of c) ≡ marking_ops Back c
 marking_at_back before after (Ops ops inverse) leads = sym (as_many before after (Ops ops inverse) leads)
 marking_at_back before after (Endings r) leads = refl
@@ -169,7 +160,7 @@ pub record IsStep (way : Way) (now : FlatText) (version alternative : ℕ) (d : 
   pub some : 0 < length (next_steps way s)
   pub there : 0 < length (latest_steps (latest_along way) (passed way s))
   pub next : 0 < length (next_steps way (history_of now s))
-  pub ops : next_op_count (next_steps way (history_of now s)) ≡ op_count way step.changes
+  pub edits : next_edit_count way (next_steps way (history_of now s)) ≡ edit_count_along way step.changes
   pub marking : next_marking_count (next_steps way (history_of now s)) ≡ marking_count way step.changes
   pub units : next_unit_count way (next_steps way (history_of now s)) ≡ unit_count way step.changes
   pub breaks : next_break_count way (next_steps way (history_of now s)) ≡ breaks_along way step.changes
@@ -187,7 +178,7 @@ undo_first now version alternative d scanner shelf latest step rest redo is_open
       some = omega arith;
       there = omega arith;
       next = omega arith;
-      ops = ops_back now step.changes old.back.0;
+      edits = measured_back edit_count now step.changes old.back.0;
       marking = marking_back now step.changes old.back.0;
       units = measured_back text_units now step.changes old.back.0;
       breaks = measured_back text_breaks now step.changes old.back.0;
@@ -206,7 +197,7 @@ redo_first now version alternative d scanner shelf latest step undo rest is_open
       some = omega arith;
       there = omega arith;
       next = omega arith;
-      ops = measured_on length now step.changes old.on.0;
+      edits = measured_on edit_count now step.changes old.on.0;
       marking = marking_on now step.changes;
       units = measured_on text_units now step.changes old.on.0;
       breaks = measured_on text_breaks now step.changes old.on.0;

@@ -21,7 +21,7 @@ pub record IsCompacted (old new : ModelState) : Type 0 where
 abbrev pub is_outgrown : ModelState → Bool
 is_outgrown m = outgrows (length m.document.units) m.held
 
--- the buffers were only appended to, by edits with this many texts, which have `units` units together
+-- the buffers were only appended to, by this many edits, whose texts have `units` units together
 pub record HasAppended (edits units : ℕ) (old new : ModelState) : Type 0 where
   pub kept : old.held ≤ new.held
   pub few : new.held ≤ old.held + (units + 8 * edits)
@@ -46,12 +46,12 @@ pub record IsRewritten (due : Bool) (room : Option MostFitting) (old new : Model
 abbrev pub most_held_after : ℕ → ℕ → ℕ → ℕ → ℕ
 most_held_after before after edits units = MOST_TIMES_HELD * before + after + (units + 8 * edits) + 2 ^ 16
 
--- what the buffers hold after a change by edits with this many texts, which have `units` units together
+-- what the buffers hold after a change by this many edits, whose texts have `units` units together
 pub record KeepsBound (edits units : ℕ) (old new : ModelState) : Type 0 where
   -- their number is limited, unless memory was short for that or a snapshot was open
   pub bound : new.overfull ≡ false → new.held ≤ most_held_after (length old.document.units) (length new.document.units) edits units
   pub cause : new.overfull ≡ true → is_outgrown old ≡ true
-  -- the text is rewritten only if the buffers held far more, so what is rewritten is a third of what was appended at most
+  -- the text is rewritten only if the buffers held far more: at most a third of what they held, beside the text of the change
   pub paid : new.held < old.held → is_outgrown old ≡ true
 
 abbrev pub HasAppendedBy : Action → ModelState → ModelState → Type 0

@@ -1,7 +1,11 @@
 -- The model after an edit of the text.
 use Rattle.std.specs.Prelude.{Bool, List, length, Result, ⊤}
 use Rattle.mark_rules.specs.declared.Mark.{Mark}
+use Rattle.unit_text.specs.declared.kind.Kind.{Kind}
+use Rattle.unit_text.specs.Kinds.{normalized}
 use Rattle.text_rules.specs.declared.Op.{Op}
+use Rattle.text_buffer.specs.Room.{part_count}
+use Rattle.text_batches.specs.Needs.{edit_count}
 use Rattle.batch_rules.specs.Batches.{sorted_ops, ops_in}
 use Rattle.document_rules.specs.declared.ModelError.{ModelError}
 use Rattle.document_rules.specs.Document.{FlatState}
@@ -18,8 +22,10 @@ marks_edited old ops = marked_backwards old.document.units (ops_as_done old.docu
 
 -- the ops were carried out, or refused
 abbrev pub HasEdited : List Op → Result ⊤ ModelError → ModelState → ModelState → Type 0
-HasEdited ops result old new = AfterCall result (Leaves (length ops) (length ops) (marks_edited old ops)) old new
+HasEdited ops result old new =
+    AfterCall result (Leaves (edit_count (ops_as_done old.document ops)) (length ops) (marks_edited old ops)) old new
 
 -- new line endings were set, which mark no line
-abbrev pub HasRecast : Result Bool ModelError → ModelState → ModelState → Type 0
-HasRecast result old new = AfterMove result (Leaves 1 0 old.marks) old new
+abbrev pub HasRecast : Kind → Result Bool ModelError → ModelState → ModelState → Type 0
+HasRecast kind result old new =
+    AfterMove result (Leaves (part_count (normalized kind old.document.units)) 0 old.marks) old new

@@ -15,7 +15,7 @@ use Rattle.model_core.specs.declared.ready.Action.TheVariants.{Make}
 use Rattle.model_core.specs.State.{Room, ModelState}
 use Rattle.model_page.specs.Compact.{outgrows}
 use Rattle.model_core.specs.Compact.{most_held_after, KeepsBound}
-use Rattle.model_core.specs.Prepared.{Need, CanCommit, IsEnough, next_op_count, next_marking_count, next_unit_count, next_break_count}
+use Rattle.model_core.specs.Prepared.{Need, CanCommit, IsEnough, next_edit_count, next_marking_count, next_unit_count, next_break_count}
 use Rattle.model_page.specs.declared.change.Change.TheVariants.{Ops}
 
 abbrev insert : ℕ → Op
@@ -42,11 +42,11 @@ two_batches = record {
 abbrev one_batch : Step FlatChange
 one_batch = record { changes = changed [] (insert 0 ∷ []) (codes "x") ∷ []; alt_before = 0; alt_after = 1; tag = None }
 
-the_ops_of_all_batches_of_the_next_step : next_op_count (two_batches ∷ one_batch ∷ []) ≡ 3
-the_ops_of_all_batches_of_the_next_step = refl
+the_edits_of_all_batches_of_the_next_step : next_edit_count Back (two_batches ∷ one_batch ∷ []) ≡ 3
+the_edits_of_all_batches_of_the_next_step = refl
 
-no_step_has_no_ops : next_op_count [] ≡ 0
-no_step_has_no_ops = refl
+no_step_has_no_edits : next_edit_count On [] ≡ 0
+no_step_has_no_edits = refl
 
 their_texts_on_the_way_on : next_unit_count On (two_batches ∷ one_batch ∷ []) ≡ 3
 their_texts_on_the_way_on = refl
@@ -103,15 +103,15 @@ two_edits = record { text = record { edits = 2; units = 5; breaks = 1 }; changes
 abbrev room_with : ℕ → Room
 room_with breaks = record { text = record { edits = 2; units = 135; breaks = breaks }; marks = 2; changes = 1 }
 
-five_breaks_are_enough : IsEnough (room_with 5) two_edits
-five_breaks_are_enough = record {
+seven_breaks_are_enough : IsEnough (room_with 7) two_edits
+seven_breaks_are_enough = record {
   text = record { edits = omega arith; units = omega arith; breaks = omega arith };
   marks = omega arith;
   changes = omega arith;
 }
 
-four_breaks_are_one_too_few : IsEnough (room_with 4) two_edits → ⊥
-four_breaks_are_one_too_few enough = omega (arith, enough.text.breaks)
+six_breaks_are_one_too_few : IsEnough (room_with 6) two_edits → ⊥
+six_breaks_are_one_too_few enough = omega (arith, enough.text.breaks)
 
 -- a document of one line, with room for one edit that inserts one unit
 abbrev six_letters : ModelState
@@ -125,7 +125,7 @@ six_letters = record {
   pieces = 1;
   held = 6;
   overfull = false;
-  room = record { text = record { edits = 1; units = 66; breaks = 2 }; marks = 1; changes = 1 };
+  room = record { text = record { edits = 1; units = 66; breaks = 3 }; marks = 1; changes = 1 };
 }
 
 -- `x` replaces `cd`, with the inverse

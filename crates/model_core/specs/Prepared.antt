@@ -11,7 +11,7 @@ use Rattle.undo_rules.specs.Stack.{Step}
 use Rattle.document_rules.specs.declared.ModelError.{ModelError}
 use Rattle.document_rules.specs.Outcomes.{RefusedFor}
 use Rattle.document_rules.specs.Document.{FlatText, Deed, FlatChange, FlatState, batch, recast, ops_on, ops_back, text_now, recast_to, after_batch, after_recast, flat_edit, flat_stop, is_same_kind, flat_eol}
-use Rattle.text_batches.specs.Needs.{text_breaks, need_of_ops}
+use Rattle.text_batches.specs.Needs.{edit_count, text_breaks, need_of_ops}
 use Rattle.model_page.specs.declared.change.Change.{Change}
 use Rattle.model_page.specs.declared.change.Way.{Way}
 use Rattle.model_page.specs.declared.change.Way.TheVariants.{Back, On}
@@ -52,11 +52,11 @@ abbrev pub next_sum : (List Op → ℕ) → Way → List (Step FlatChange) → �
 next_sum measure way [] = 0
 next_sum measure way (step ∷ steps) = sum_by (λ change. measure (ops_along way change)) step.changes
 
--- the number of ops of that step, the same for undo and redo
-abbrev pub next_op_count : List (Step FlatChange) → ℕ
-next_op_count steps = next_sum length On steps
+-- the number of edits that carry that step out
+abbrev pub next_edit_count : Way → List (Step FlatChange) → ℕ
+next_edit_count way steps = next_sum edit_count way steps
 
--- how many of them mark lines; new line endings mark none
+-- how many ops of that step mark lines, the same for undo and redo; new line endings mark none
 abbrev pub deed_marking : Deed → ℕ
 deed_marking (batch ops) = length ops
 deed_marking recast = 0
@@ -83,7 +83,7 @@ abbrev pub need_of : Action → FlatState → Need
 need_of (Make change) f = record { text = need_of_ops (ops_by On change); changes = 1 }
 need_of (Move way) f = record {
   text = record {
-    edits = next_op_count (next_steps way f.history);
+    edits = next_edit_count way (next_steps way f.history);
     units = next_unit_count way (next_steps way f.history);
     breaks = next_break_count way (next_steps way f.history);
   };

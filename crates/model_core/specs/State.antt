@@ -46,14 +46,14 @@ pub record ModelState : Type 0 where
   -- changes that need no allocation
   pub room : Room
 
--- the last parse and the pieces after `ops` ops, of which `marking` mark lines; `marked` are the new marks
-pub record Leaves (ops marking : ℕ) (marked : List Mark) (old new : ModelState) : Type 0 where
+-- the last parse and the pieces after `edits` edits, by ops of which `marking` mark lines; `marked` are the new marks
+pub record Leaves (edits marking : ℕ) (marked : List Mark) (old new : ModelState) : Type 0 where
   pub parsed : new.parsed ≡ old.parsed
   pub tree : new.tree ≡ old.tree
   pub states : new.states ≡ old.states
   pub marks : new.marks ≡ marked
   pub fresh : KeptBy marking old.fresh new.fresh
-  pub pieces : GrownBy ops old.pieces new.pieces
+  pub pieces : GrownBy edits old.pieces new.pieces
 
 -- the last parse, the marks, the pieces and the units in the buffers are unchanged, and there is at least the old room
 pub record KeepsParse (old new : ModelState) : Type 0 where

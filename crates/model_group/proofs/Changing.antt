@@ -179,7 +179,7 @@ module _ (n : ℕ) (ready : Prepared) (old mid new : GroupState) where
       (is.document, is.parse))
 
   pub recast : (kind : Kind) → OnDoc n (Prepares (PreparesEol kind (Ok (Some ready)))) old mid → Commits Acts (record { doc = n; ready = ready }) mid new
-      → Changed n (λ f g. flat_eol f kind ≡ Ok (Some g)) (HasRecast (Ok true)) old new
+      → Changed n (λ f g. flat_eol f kind ≡ Ok (Some g)) (HasRecast kind (Ok true)) old new
   recast kind on done =
       carried_out n _ old mid new on Acts ready done _ _ (λ k does.
       let is = recast_as_prepared on.before on.after k ready on.done.kept.document on.done.kept.parse does.document does.parse kind on.done.ready in

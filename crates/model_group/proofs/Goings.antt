@@ -30,7 +30,7 @@ use Rattle.model_core.specs.declared.ready.Action.TheVariants.{Move}
 use Rattle.model_core.specs.State.{ModelState, KeepsParse, Leaves}
 use Rattle.model_core.specs.Going.{HasGone}
 use Rattle.model_core.specs.Ways.{next_steps, flat_move}
-use Rattle.model_core.specs.Prepared.{Prepared, CanCommit, Acts, HasActed, IsMoveReady, PreparesMove, next_op_count, next_marking_count}
+use Rattle.model_core.specs.Prepared.{Prepared, CanCommit, Acts, HasActed, IsMoveReady, PreparesMove, next_edit_count, next_marking_count}
 use Rattle.model_core.proofs.Leaving.{leaves_from, leaves_as}
 use Rattle.model_group.specs.Errors.{group_error_of}
 use Rattle.model_group.specs.declared.ready.DocReady.{DocReady}
@@ -291,9 +291,9 @@ no_marks On marks = refl
 
 -- no step leaves all as it was
 none_gone : (way : Way) (m k : ModelState) (steps : List (Step FlatChange)) → steps ≡ [] → KeepsParse m k
-    → Leaves (next_op_count steps) (next_marking_count steps) (marked_step way m.marks steps) m k
+    → Leaves (next_edit_count way steps) (next_marking_count steps) (marked_step way m.marks steps) m k
 none_gone way m k steps none kept =
-    subst (λ steps. Leaves (next_op_count steps) (next_marking_count steps) (marked_step way m.marks steps) m k) (sym none) (record {
+    subst (λ steps. Leaves (next_edit_count way steps) (next_marking_count steps) (marked_step way m.marks steps) m k) (sym none) (record {
       parsed = kept.parsed;
       tree = kept.tree;
       states = kept.states;
@@ -307,8 +307,8 @@ gone_as_kept : (way : Way) (old mid new : ModelState) → Keeps old mid → HasA
 gone_as_kept way old mid new kept acted =
     let next : List (Step FlatChange) = next_steps way old.document.history in
     let steps : next_steps way mid.document.history ≡ next = ap (λ f. next_steps way f.history) kept.document in
-    leaves_from (next_op_count next) (next_marking_count next) (marked_step way old.marks next) old mid new kept.parse
-    (leaves_as _ (next_op_count next) _ (next_marking_count next) _ (marked_step way old.marks next) mid new (ap next_op_count steps)
+    leaves_from (next_edit_count way next) (next_marking_count next) (marked_step way old.marks next) old mid new kept.parse
+    (leaves_as _ (next_edit_count way next) _ (next_marking_count next) _ (marked_step way old.marks next) mid new (ap (next_edit_count way) steps)
     (ap next_marking_count steps) (ap (marked_step way mid.marks) steps ∙ ap (λ ms. marked_step way ms next) kept.parse.marks) acted)
 
 step_done : (way : Way) (of_tag : Bool) (old mid new : ModelState) (ready : Option Prepared) → Keeps old mid → IsStepReady way of_tag mid ready

@@ -26,7 +26,8 @@ use Rattle.model_page.specs.LineMarks.{marked_backwards}
 use Rattle.model_core.specs.State.{ModelState, KeepsParse, Leaves}
 use Rattle.model_core.specs.Edited.{ops_as_done, marks_edited, HasEdited}
 use Rattle.model_core.specs.Prepared.{Prepared, Acts, ActsAlone, HasActed, PreparesEdit, batch_of, IsEditReady}
-use Rattle.model_core.proofs.Leaving.{leaves_from}
+use Rattle.text_batches.specs.Needs.{edit_count}
+use Rattle.model_core.proofs.Leaving.{leaves_from, leaves_as}
 use Rattle.model_core.proofs.Preparing.{ruled, edit_again, edits_leave}
 use Rattle.model_group.specs.Calls.{HasJoined, AllJoin}
 use Rattle.model_group.specs.declared.ready.DocReady.{DocReady}
@@ -226,8 +227,9 @@ edited_as_kept ops old mid new ready kept is acted =
     let marks : marks_edited mid ops ≡ marks_edited old ops =
     ap (λ (f : FlatState). marked_backwards f.units (ops_as_done f ops) mid.marks) kept.document
     ∙ ap (marked_backwards old.document.units (ops_as_done old.document ops)) kept.parse.marks in
-    leaves_from (length ops) (length ops) (marks_edited old ops) old mid new kept.parse
-    (subst (λ m. Leaves (length ops) (length ops) m mid new) marks left)
+    leaves_from (edit_count (ops_as_done old.document ops)) (length ops) (marks_edited old ops) old mid new kept.parse
+    (leaves_as _ (edit_count (ops_as_done old.document ops)) _ (length ops) _ (marks_edited old ops) mid new
+    (ap (λ (f : FlatState). edit_count (ops_as_done f ops)) kept.document) refl marks left)
 
 -- The group after all is the one that the rule makes.
 pub record IsJoined (batches : List FlatBatch) (old new : GroupState) : Type 0 where

@@ -65,7 +65,7 @@ impl Group {
         requires { doc < DOC_COUNT }
         ensures documents { Moves result (documents self.old) (documents self.new)
             (group_eol (documents self.old) doc kind) }
-        ensures models { ActsOn doc (HasRecast result) self.old self.new }
+        ensures models { ActsOn doc (HasRecast kind result) self.old self.new }
         ensures stay { Stay (reached doc (lost_by_change (doc_in (documents self.old) doc)))
             (documents self.old) (documents self.new) }
     {

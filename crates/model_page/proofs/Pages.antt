@@ -11,7 +11,7 @@ use Rattle.decoration_rules.specs.Decorations.{Decorations}
 use Rattle.mark_rules.specs.declared.Mark.{Mark}
 use Rattle.mark_rules.specs.Marks.{has_new}
 use Rattle.text_batches.specs.Growth.{HasGrown}
-use Rattle.text_batches.specs.Needs.{need_of_ops}
+use Rattle.text_batches.specs.Needs.{need_of_ops, edit_count}
 use Rattle.model_page.specs.declared.change.Change.{Change}
 use Rattle.model_page.specs.declared.change.Way.{Way}
 use Rattle.model_page.specs.declared.change.Way.TheVariants.{Back, On}
@@ -19,7 +19,7 @@ use Rattle.model_page.specs.Carrying.{carried_with, decorations_over, AreIn}
 use Rattle.document_rules.specs.Document.{FlatText}
 use Rattle.model_page.specs.declared.change.Change.TheVariants.{Ops, Endings}
 use Rattle.model_page.specs.Changes.{ops_by, led}
-use Rattle.model_page.specs.Counts.{op_count}
+use Rattle.model_page.specs.Counts.{edit_count_along}
 use Rattle.model_page.specs.LineMarks.{marked_backwards, marks_over}
 use Rattle.model_page.specs.Needs.{need_along, most_appended}
 use Rattle.model_page.specs.Staying.{StaysWith}
@@ -37,8 +37,8 @@ pub record IsPageAfter (old : PageState) (forces : Bool) (ops : List Op) (done :
   pub inside : AreIn (length now.text.units) now.decorations
   pub marks : now.marks ≡ marked_backwards old.text.units (drop (length ops - done) ops) old.marks
   pub lines : length now.marks ≡ length (lines_of now.text.units)
-  pub spare : old.spare ≤ now.spare + done
-  pub appended : unit_count now.text.buffers ≤ unit_count old.text.buffers + (text_units (drop (length ops - done) ops) + 8 * done)
+  pub spare : old.spare ≤ now.spare + edit_count (drop (length ops - done) ops)
+  pub appended : unit_count now.text.buffers ≤ unit_count old.text.buffers + (text_units (drop (length ops - done) ops) + 8 * edit_count (drop (length ops - done) ops))
   pub parse : KeepsParse old now
 
 pub page_before : (page : PageState) (forces : Bool) (ops : List Op) → IsPage page → IsPageAfter page forces ops 0 page
@@ -51,7 +51,7 @@ page_before page forces ops sound =
       marks = sym (ap (λ o. marked_backwards page.text.units o page.marks) none);
       lines = sound.stays.count;
       spare = omega arith;
-      appended = omega arith;
+      appended = omega (arith, ap text_units none, ap edit_count none);
       parse = record { scanner = refl; parsed = refl; tree = refl; states = refl };
     }
 
@@ -61,7 +61,7 @@ pub record IsApplied (forces : Bool) (ops : List Op) (old new : PageState) : Typ
   pub decorations : new.decorations ≡ carried_with forces old.decorations ops
   pub marks : new.marks ≡ marked_backwards old.text.units ops old.marks
   pub parse : KeepsParse old new
-  pub grown : HasGrown (length ops) old.text new.text
+  pub grown : HasGrown (edit_count ops) old.text new.text
   pub spent : HasSpent (need_of_ops ops) old new
 
 module _ (old now : PageState) (forces : Bool) (ops : List Op) (done : ℕ) (can : CanApply old ops) (past : length ops ≤ done) (within : done ≤ length ops)
@@ -78,8 +78,8 @@ module _ (old now : PageState) (forces : Bool) (ops : List Op) (done : ℕ) (can
         grown = text.1;
         spent = record {
           text = text.2;
-          marks = omega (arith, after.spare);
-          appended = omega (arith, after.appended, within, ap (λ (k : ℕ). text_units (drop k ops)) all);
+          marks = omega (arith, after.spare, ap (λ (k : ℕ). edit_count (drop k ops)) all);
+          appended = omega (arith, after.appended, ap (λ (k : ℕ). edit_count (drop k ops)) all, ap (λ (k : ℕ). text_units (drop k ops)) all);
         };
       }
 
@@ -106,7 +106,7 @@ pub record IsOnWay (way : Way) (old : PageState) (cs : List Change) (left : List
   pub decorations : decorations_by way now.decorations left ≡ decorations_by way old.decorations cs
   pub marks : marked_along way now.marks (changes_by way (flat_text now.text) left) ≡ marked_along way old.marks (changes_by way (flat_text old.text) cs)
   pub parse : KeepsParse old now
-  pub pieces : length now.text.spans + 2 * op_count way left ≤ length old.text.spans + 2 * op_count way cs
+  pub pieces : length now.text.spans + 2 * edit_count_along way left ≤ length old.text.spans + 2 * edit_count_along way cs
   pub buffers : Extends old.text.buffers now.text.buffers
   pub appended : unit_count now.text.buffers + most_appended (need_along way left) ≤ unit_count old.text.buffers + most_appended (need_along way cs)
   pub can : CanLead way now left
@@ -131,7 +131,7 @@ pub record IsFollowed (way : Way) (forces : Bool) (c : Change) (old new : PageSt
   pub decorations : new.decorations ≡ decorations_over forces way c old.decorations
   pub marks : new.marks ≡ marks_over way c old.text.units old.marks
   pub parse : KeepsParse old new
-  pub grown : HasGrown (length (ops_by way c)) old.text new.text
+  pub grown : HasGrown (edit_count (ops_by way c)) old.text new.text
   pub spent : HasSpent (need_of_ops (ops_by way c)) old new
 
 fit_follows : (way : Way) (now : PageState) (c : Change) → IsFit way c (flat_text now.text) → HasRoom now (need_of_ops (ops_by way c)) → CanFollow way now c
@@ -144,11 +144,11 @@ module _ (way : Way) (old now : PageState) (cs left : List Change) (c : Change) 
       let room = before.can.room in
       fit_follows way now c next.fit (record {
         text = record {
-          edits = omega (arith, room.text.edits, next.ops);
-          units = omega (arith, room.text.units, next.ops, next.units);
-          breaks = omega (arith, room.text.breaks, next.ops, next.breaks);
+          edits = omega (arith, room.text.edits, next.edits);
+          units = omega (arith, room.text.units, next.edits, next.units);
+          breaks = omega (arith, room.text.breaks, next.edits, next.breaks);
         };
-        marks = omega (arith, room.marks, next.ops);
+        marks = omega (arith, room.marks, next.edits);
       })
 
   pub way_goes_on : (new : PageState) → IsFollowed way (forces way) c now new → IsOnWay way old cs rest new
@@ -167,18 +167,18 @@ module _ (way : Way) (old now : PageState) (cs left : List Change) (c : Change) 
           tree = done.parse.tree ∙ before.parse.tree;
           states = done.parse.states ∙ before.parse.states;
         };
-        pieces = omega (arith, before.pieces, done.grown.pieces, next.ops);
+        pieces = omega (arith, before.pieces, done.grown.pieces, next.edits);
         buffers = Extends-trans old.text.buffers now.text.buffers new.text.buffers before.buffers done.grown.buffers;
-        appended = omega (arith, before.appended, spent.appended, next.ops, next.units);
+        appended = omega (arith, before.appended, spent.appended, next.edits, next.units);
         can = record {
           lead = subst (λ x. LeadBy way x rest) (sym done.text) next.lead;
           room = record {
             text = record {
-              edits = omega (arith, room.text.edits, spent.text.edits, next.ops);
-              units = omega (arith, room.text.units, spent.text.units, next.ops, next.units);
-              breaks = omega (arith, room.text.breaks, spent.text.breaks, next.ops, next.breaks);
+              edits = omega (arith, room.text.edits, spent.text.edits, next.edits);
+              units = omega (arith, room.text.units, spent.text.units, next.edits, next.units);
+              breaks = omega (arith, room.text.breaks, spent.text.breaks, next.edits, next.breaks);
             };
-            marks = omega (arith, room.marks, spent.marks, next.ops);
+            marks = omega (arith, room.marks, spent.marks, next.edits);
           };
         };
       }
@@ -201,7 +201,7 @@ pub record IsLed (way : Way) (cs : List Change) (old new : PageState) : Type 0 w
   pub decorations : new.decorations ≡ decorations_by way old.decorations cs
   pub marks : new.marks ≡ marked_along way old.marks (changes_by way (flat_text old.text) cs)
   pub parse : KeepsParse old new
-  pub grown : HasGrown (op_count way cs) old.text new.text
+  pub grown : HasGrown (edit_count_along way cs) old.text new.text
   pub appended : unit_count new.text.buffers ≤ unit_count old.text.buffers + most_appended (need_along way cs)
 
 pub way_ends : (way : Way) (old now : PageState) (cs left : List Change) → left ≡ [] → IsOnWay way old cs left now → IsLed way cs old now

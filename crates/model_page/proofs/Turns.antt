@@ -13,20 +13,20 @@ use Rattle.batch_rules.proofs.Inverses.{inverse_stands_from_start, inverse_gives
 use Rattle.decoration_rules.specs.Decorations.{Decorations}
 use Rattle.document_rules.specs.Document.{FlatText, FlatChange}
 use Rattle.mark_rules.specs.declared.Mark.{Mark}
-use Rattle.text_batches.specs.Needs.{text_breaks}
+use Rattle.text_batches.specs.Needs.{text_breaks, edit_count}
 use Rattle.model_page.specs.declared.change.Change.{Change}
 use Rattle.model_page.specs.declared.change.Change.TheVariants.{Ops, Endings}
 use Rattle.model_page.specs.declared.change.Way.{Way}
 use Rattle.model_page.specs.declared.change.Way.TheVariants.{Back, On}
 use Rattle.model_page.specs.Changes.{text_from, ops_by, kind_by, led, deed_of, text_back, changes_back, changes_on, Leads, LeadBack, LeadOn}
-use Rattle.model_page.specs.Counts.{op_count, unit_count, breaks_along, marking_ops, marking_count}
+use Rattle.model_page.specs.Counts.{edit_count_along, unit_count, breaks_along, marking_ops, marking_count}
 use Rattle.model_page.specs.Carrying.{decorations_over, decorations_back}
 use Rattle.model_page.specs.InTurn.{edits_along, all_edits_along}
 use Rattle.model_page.specs.LineMarks.{marked_backwards, marks_over, marks_taken_back, marks_made_again, marked_back, marked_on}
 use Rattle.model_page.specs.Ways.{forces, text_by, changes_by, LeadBy, decorations_by, batches_by, marked_along, place_at, rest_on}
 
-pub op_count-cons : (way : Way) (c : Change) (cs : List Change) → op_count way (c ∷ cs) ≡ length (ops_by way c) + op_count way cs
-op_count-cons way c cs = sum_by-cons {X = Change} (λ d. length (ops_by way d)) c cs
+pub edit_count_along-cons : (way : Way) (c : Change) (cs : List Change) → edit_count_along way (c ∷ cs) ≡ edit_count (ops_by way c) + edit_count_along way cs
+edit_count_along-cons way c cs = sum_by-cons {X = Change} (λ d. edit_count (ops_by way d)) c cs
 
 unit_count-cons : (way : Way) (c : Change) (cs : List Change) → unit_count way (c ∷ cs) ≡ text_units (ops_by way c) + unit_count way cs
 unit_count-cons way c cs = sum_by-cons {X = Change} (λ d. text_units (ops_by way d)) c cs
@@ -142,7 +142,7 @@ pub record IsNext (way : Way) (left : List Change) (c : Change) (rest : List Cha
   pub decorations : (d : Decorations) → decorations_by way d left ≡ decorations_by way (decorations_over (forces way) way c d) rest
   pub marks : (ms : List Mark) → marked_along way ms (changes_by way now left)
       ≡ marked_along way (marks_over way c now.units ms) (changes_by way (led way c now) rest)
-  pub ops : op_count way left ≡ length (ops_by way c) + op_count way rest
+  pub edits : edit_count_along way left ≡ edit_count (ops_by way c) + edit_count_along way rest
   pub units : unit_count way left ≡ text_units (ops_by way c) + unit_count way rest
   pub breaks : breaks_along way left ≡ text_breaks (ops_by way c) + breaks_along way rest
 
@@ -159,7 +159,7 @@ next_back rest c now lead =
       marks = λ ms.
           ap (marked_back ms) (changes_back-more rest c before now refl) ∙ marked_back-more ms (changes_back before rest) last
           ∙ ap (λ (marks : List Mark). marked_back marks (changes_back before rest)) (marks_back before now c ms less.0);
-      ops = omega (arith, sum_by-append {X = Change} (λ d. length (ops_by Back d)) rest (c ∷ []), op_count-cons Back c []);
+      edits = omega (arith, sum_by-append {X = Change} (λ d. edit_count (ops_by Back d)) rest (c ∷ []), edit_count_along-cons Back c []);
       units = omega (arith, sum_by-append {X = Change} (λ d. text_units (ops_by Back d)) rest (c ∷ []), unit_count-cons Back c []);
       breaks = omega (arith, sum_by-append {X = Change} (λ d. text_breaks (ops_by Back d)) rest (c ∷ []), breaks_along-cons Back c []);
     }
@@ -171,7 +171,7 @@ next_on c rest now lead = record {
   text = refl;
   decorations = λ d. refl;
   marks = λ ms. ap (λ (marks : List Mark). marked_on marks (changes_on (led On c now) rest)) (marks_on now c ms);
-  ops = op_count-cons On c rest;
+  edits = edit_count_along-cons On c rest;
   units = unit_count-cons On c rest;
   breaks = breaks_along-cons On c rest;
 }

@@ -3,6 +3,7 @@ use Rattle.std.specs.Prelude.{ℕ, ◌≡◌, ◌+◌, ◌*◌, ◌≤◌, ◌&&
 use Rattle.line_starts.specs.Starts.{break_count}
 use Rattle.chunk_buffers.specs.Chunks.{unit_count}
 use Rattle.text_buffer.specs.declared.room.Need.{Need}
+use Rattle.text_buffer.specs.Room.{IsEnough, most_part}
 use Rattle.text_buffer.specs.Text.{Text}
 use Rattle.model_page.specs.State.{PageState, KeepsParse, flat_text}
 use Rattle.model_page.specs.declared.compact.TheConstants.{MOST_TIMES_HELD, MOST_HELD}
@@ -15,10 +16,16 @@ outgrows units held = nat_lt (MOST_TIMES_HELD * units + MOST_HELD) held
 abbrev pub is_outgrown : Text → Bool
 is_outgrown text = outgrows (length text.units) (unit_count text.buffers)
 
--- the most units and breaks that fit the room to rewrite a text
+-- the most units and breaks that fit the room to rewrite a text as one part
 pub record MostFitting : Type 0 where
   pub units : ℕ
   pub breaks : ℕ
+
+-- an empty text with room for one edit of these units, at most one part, and these breaks
+pub record IsRoomFor (text : Text) (units breaks : ℕ) : Type 0 where
+  pub empty : unit_count text.buffers ≡ 0
+  pub short : units ≤ most_part
+  pub room : IsEnough text.room (record { edits = 1; units = units; breaks = breaks })
 
 -- whether a text fits it
 abbrev pub fits : MostFitting → List ℕ → Bool

@@ -1,15 +1,15 @@
--- The numbers of ops on a way, and of the units and breaks of their texts.
+-- The numbers of edits on a way, and of the units and breaks of their texts.
 use Rattle.std.specs.Prelude.{ℕ, List, length, sum_by}
 use Rattle.batch_rules.specs.Batches.{text_units}
-use Rattle.text_batches.specs.Needs.{text_breaks}
+use Rattle.text_batches.specs.Needs.{edit_count, text_breaks}
 use Rattle.model_page.specs.declared.change.Change.{Change}
 use Rattle.model_page.specs.declared.change.Change.TheVariants.{Ops, Endings}
 use Rattle.model_page.specs.declared.change.Way.{Way}
 use Rattle.model_page.specs.Changes.{ops_by}
 
--- the number of ops on the way, and of the units and breaks of their texts
-abbrev pub op_count : Way → List Change → ℕ
-op_count way cs = sum_by (λ c. length (ops_by way c)) cs
+-- the number of edits on the way, and of the units and breaks of their texts
+abbrev pub edit_count_along : Way → List Change → ℕ
+edit_count_along way cs = sum_by (λ c. edit_count (ops_by way c)) cs
 
 abbrev pub unit_count : Way → List Change → ℕ
 unit_count way cs = sum_by (λ c. text_units (ops_by way c)) cs

@@ -1,5 +1,5 @@
 -- What contracts see of a page: its state, the preconditions of its calls, and the page after them.
-use Rattle.std.specs.Prelude.{◌≡◌, ℕ, ◌+◌, ◌≤◌, Bool, true, false, List, length, replicate, Option, None, is_some, Result, OnOk, OnErr}
+use Rattle.std.specs.Prelude.{◌≡◌, ℕ, ◌+◌, ◌≤◌, Bool, true, false, List, length, replicate, Option, None, is_some, Result, OnOk, OnErr, ◌<◌, ◌*◌}
 use Rattle.unit_text.specs.declared.kind.Kind.{Kind}
 use Rattle.unit_text.specs.Kinds.{IsOfKind}
 use Rattle.text_rules.specs.declared.Op.{Op}
@@ -18,6 +18,7 @@ use Rattle.mark_rules.specs.declared.Mark.TheVariants.{New}
 use Rattle.mark_rules.specs.Marks.{clean_marks}
 use Rattle.text_buffer.specs.Text.{Text}
 use Rattle.text_buffer.specs.Room as text_room
+use Rattle.text_buffer.specs.Room.{part_count}
 use Rattle.text_buffer.specs.declared.room.Need.{Need}
 use Rattle.text_batches.specs.Needs.{need_of_ops}
 use Rattle.model_page.specs.declared.change.Change.{Change}
@@ -70,7 +71,7 @@ decorated_on page owner remove add = decorated page.decorations owner remove add
 pub record IsNew (x : List ℕ) (endings : Kind) (by : Scanner) (page : PageState) : Type 0 where
   pub units : page.text.units ≡ x
   pub kind : page.text.kind ≡ endings
-  pub pieces : length page.text.spans ≤ 1
+  pub pieces : length page.text.spans < 2 * part_count x
   pub decorations : page.decorations ≡ no_decorations
   pub scanner : page.scanner ≡ by
   pub parsed : page.parsed ≡ None

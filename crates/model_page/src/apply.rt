@@ -8,11 +8,12 @@ ghost use Rattle.document_rules.specs.Document.{carried_to};
 ghost use Rattle.model_page.specs.declared.change.Change.TheVariants.{Endings};
 ghost use Rattle.model_page.specs.Carrying.{edit_with, carried_with, decorations_over};
 ghost use Rattle.model_page.specs.Changes.{led, ops_by, text_from, text_to};
-ghost use Rattle.model_page.specs.Counts.{op_count};
+ghost use Rattle.model_page.specs.Counts.{edit_count_along};
 ghost use Rattle.model_page.specs.LineMarks.{marked_backwards, marks_over};
 ghost use Rattle.model_page.specs.Needs.{need_along, most_appended};
 ghost use Rattle.text_batches.specs.Growth.{HasGrown};
-ghost use Rattle.text_batches.specs.Needs.{need_of_ops};
+ghost use Rattle.text_buffer.specs.Room.{part_count};
+ghost use Rattle.text_batches.specs.Needs.{edit_count, need_of_ops};
 ghost use Rattle.model_page.specs.Placed.{op_of};
 ghost use Rattle.model_page.specs.State.{CanApply, CanFollow, CanLead, HasRoom, HasSpent, KeepsParse, flat_text};
 ghost use Rattle.model_page.specs.Ways.{text_by, changes_by, decorations_by, marked_along, place_at};
@@ -36,7 +37,7 @@ impl Page {
         ensures marks { self.new.marks
             ≡ marks_over way change.now self.old.text.units self.old.marks }
         ensures parse { KeepsParse self.old self.new }
-        ensures grown { HasGrown (length (ops_by way change.now)) self.old.text self.new.text }
+        ensures grown { HasGrown (edit_count (ops_by way change.now)) self.old.text self.new.text }
         ensures spent { HasSpent (need_of_ops (ops_by way change.now)) self.old self.new }
     {
         match change {
@@ -57,7 +58,7 @@ impl Page {
         ensures marks { self.new.marks
             ≡ marked_backwards self.old.text.units ops.now self.old.marks }
         ensures parse { KeepsParse self.old self.new }
-        ensures grown { HasGrown (length ops.now) self.old.text self.new.text }
+        ensures grown { HasGrown (edit_count ops.now) self.old.text self.new.text }
         ensures spent { HasSpent (need_of_ops ops.now) self.old self.new }
     {
         let count = ops.len();
@@ -82,7 +83,8 @@ impl Page {
             (text_from way recast.now).units (text_to way recast.now).units }
         ensures marks { self.new.marks ≡ self.old.marks }
         ensures parse { KeepsParse self.old self.new }
-        ensures grown { HasGrown 1 self.old.text self.new.text }
+        ensures grown { HasGrown (part_count (text_to way recast.now).units)
+            self.old.text self.new.text }
         ensures spent { HasSpent (need_of_ops (ops_by way (Endings recast.now))) self.old self.new }
     {
         let side = recast.side(way);
@@ -104,7 +106,7 @@ impl Page {
         ensures marks { let done = changes_by way (flat_text self.old.text) (step_of step.now).changes in
             self.new.marks ≡ marked_along way self.old.marks done }
         ensures parse { KeepsParse self.old self.new }
-        ensures grown { HasGrown (op_count way (step_of step.now).changes)
+        ensures grown { HasGrown (edit_count_along way (step_of step.now).changes)
             self.old.text self.new.text }
         ensures appended { unit_count self.new.text.buffers ≤ unit_count self.old.text.buffers
             + most_appended (need_along way (step_of step.now).changes) }

@@ -14,7 +14,7 @@ use crate::placed::{PlacedBatch, PlacedRecast};
 use edit_batches::Batch;
 use edit_stack::Element;
 use std::alloc::{AllocError, Global};
-use text_batches::{joined, need_of_text};
+use text_batches::joined;
 use text_buffer::{Need, TextBuffer};
 
 /// The way in which changes are carried out.
@@ -93,7 +93,7 @@ pub fn need_of(change: &Change, way: Way) -> Need
 {
     match change {
         Change::Ops { batch, inverse } => batch_for(batch, inverse, way).need(),
-        Change::Endings(recast) => need_of_text(recast.side(way).units()),
+        Change::Endings(recast) => Need::of_edit(recast.side(way).units()),
     }
 }
 

@@ -9,7 +9,7 @@ ghost use Rattle.model_page.specs.Compact.{IsCompacted, IsCompactOf, HasRoomAfte
 use crate::page::Page;
 use std::alloc::{AllocError, Global};
 use std::marker::Model;
-use text_buffer::{Need, TextBuffer};
+use text_buffer::{Need, TextBuffer, part_count};
 use unit_text::Flat;
 
 /// A text is rewritten if its buffers hold more than this many times its units, and `MOST_HELD` more.
@@ -21,7 +21,7 @@ pub const MOST_HELD: u64 = 1 << 15;
 /// Room to rewrite a page's text as one piece. Contracts see how many units and breaks fit.
 #[derive(Drop)]
 pub struct CompactRoom {
-    /// As long as the longest text that fits.
+    /// As long as the longest text that fits; at most one part.
     units: Vec<u16>,
     /// The most breaks that fit.
     breaks: u64,
@@ -30,26 +30,26 @@ pub struct CompactRoom {
 }
 
 impl Model for CompactRoom {
-    ghost use Rattle.std.specs.Prelude.{◌≡◌, length};
-    ghost use Rattle.chunk_buffers.specs.Chunks.{unit_count};
-    ghost use Rattle.text_buffer.specs.Room.{IsEnough};
-    ghost use Rattle.model_page.specs.Compact.{MostFitting};
+    ghost use Rattle.std.specs.Prelude.{length};
+    ghost use Rattle.model_page.specs.Compact.{MostFitting, IsRoomFor};
 
     ghost Value = { MostFitting };
 
     ghost view = { λ r. record { units = length r.units.items; breaks = r.breaks } };
 
-    ghost invariant = { λ r. (unit_count r.text.buffers ≡ 0) × IsEnough r.text.room
-        (record { edits = 1; units = length r.units.items; breaks = r.breaks }) };
+    ghost invariant = { λ r. IsRoomFor r.text (length r.units.items) r.breaks };
 }
 
 impl CompactRoom {
-    // Reserves room for a text of at most `units` units and `breaks` breaks.
+    // Reserves room for a text of at most `units` units and `breaks` breaks. Fails if memory is short, or if that may be more than one part.
     fn taken(alloc: Global, units: u64, breaks: u64) -> Result<CompactRoom, AllocError>
         ensures units { IfOk result (λ room. room.units ≡ units) }
         ensures breaks { IfOk result (λ room. room.breaks ≡ breaks) }
     {
         let read = vec![in alloc; 0; units as usize]?;
+        if part_count(read.as_slice()) > 1 {
+            return Err(AllocError);
+        }
         let mut text = TextBuffer::new(alloc);
         text.reserve(Need {
             edits: 1,

@@ -1,10 +1,11 @@
 //! The last parse, and for each line of the present text its mark: a line of that parse, or new.
 
-ghost use Rattle.std.specs.Prelude.{◌≡◌, ◌+◌, ◌-◌, ◌<◌, ◌≤◌, ◌^◌, ◌∷◌, [], None, Some, false, true, length, is_some, replicate, IfOk, OnOk};
+ghost use Rattle.std.specs.Prelude.{◌≡◌, ◌+◌, ◌-◌, ◌<◌, ◌≤◌, ◌^◌, ◌∷◌, [], None, Some, false, true, length, is_some, replicate, IfOk, OnOk, ◌*◌};
 ghost use Rattle.std.specs.Option.{option_copied};
 ghost use Rattle.batch_rules.specs.Batches.{most_units};
 ghost use Rattle.unit_text.specs.Kinds.{IsOfKind};
 ghost use Rattle.text_rules.specs.Lines.{lines_of};
+ghost use Rattle.text_buffer.specs.Room.{part_count};
 ghost use Rattle.bracket_tree_rules.specs.Tree.{IsTree};
 ghost use Rattle.mark_rules.specs.declared.Mark.TheVariants.{New};
 ghost use Rattle.mark_rules.specs.Marks.{clean_marks, edited_marks};
@@ -218,7 +219,7 @@ pub(crate) fn unparsed(
     requires endings { IsOfKind kind units.now }
     ensures units { IfOk result (λ made. made.0.units ≡ units.now) }
     ensures kind { IfOk result (λ made. made.0.kind ≡ kind) }
-    ensures spans { IfOk result (λ made. length made.0.spans ≤ 1) }
+    ensures spans { IfOk result (λ made. length made.0.spans < 2 * part_count units.now) }
     ensures parsed { IfOk result (λ made. made.1.parsed ≡ None) }
     ensures tree { IfOk result (λ made. made.1.tree ≡ None) }
     ensures marks { IfOk result (λ made.

@@ -17,7 +17,7 @@ use recasts::{Recast, Side};
 use std::alloc::{AllocError, Global};
 use std::cell::Cell;
 use std::marker::Model;
-use text_batches::{need_of_batch, need_of_text};
+use text_batches::need_of_batch;
 use text_buffer::{Need, TextBuffer};
 use text_lengths::Span;
 use text_rules::Op;
@@ -160,7 +160,7 @@ impl PlacedBatch {
         ensures { result ≡ need_of_ops self.now }
     {
         match &self.form {
-            Form::Short { len, units, .. } => need_of_text(&units[..*len as usize]),
+            Form::Short { len, units, .. } => Need::of_edit(&units[..*len as usize]),
             Form::Many(kept) => need_of_batch(kept.batch.batch()),
         }
     }

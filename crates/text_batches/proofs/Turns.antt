@@ -7,7 +7,8 @@ use Rattle.text_rules.specs.Edits.{edited}
 use Rattle.line_starts.specs.Starts.{break_count}
 use Rattle.batch_rules.specs.Batches.{text_units, StandFrom, edited_backwards}
 use Rattle.batch_rules.proofs.Backwards.{backwards_step, backwards_few, IsStep}
-use Rattle.text_batches.specs.Needs.{text_breaks}
+use Rattle.text_buffer.specs.Room.{part_count}
+use Rattle.text_batches.specs.Needs.{edit_count, text_breaks}
 
 -- the op whose turn it is, after so many others, on the text of the moment
 pub record IsTurn (x : List ℕ) (ops : List Op) (done : ℕ) (op : Op) (now : List ℕ) : Type 0 where
@@ -17,6 +18,8 @@ pub record IsTurn (x : List ℕ) (ops : List Op) (done : ℕ) (op : Op) (now : L
   pub few : length (edited now op) ≤ length x + text_units ops
   pub units : text_units (drop (length ops - (done + 1)) ops) ≡ length op.text + text_units (drop (length ops - done) ops)
   pub left : text_units (drop (length ops - (done + 1)) ops) ≤ text_units ops
+  pub edits : edit_count (drop (length ops - (done + 1)) ops) ≡ part_count op.text + edit_count (drop (length ops - done) ops)
+  pub edits_left : edit_count (drop (length ops - (done + 1)) ops) ≤ edit_count ops
   pub breaks : text_breaks (drop (length ops - (done + 1)) ops) ≡ break_count op.text + text_breaks (drop (length ops - done) ops)
   pub breaks_left : text_breaks (drop (length ops - (done + 1)) ops) ≤ text_breaks ops
 
@@ -37,8 +40,10 @@ turn_at x ops i done op now standing inside here next is text =
     (subst (λ o. IsStep x o (edited_backwards x (drop (suc i) ops)) (edited_backwards x (drop i ops))) (sym is) (backwards_step 0 x ops i op standing inside)) in
     let few : length (edited_backwards x (drop i ops)) ≤ length x + text_units ops = backwards_few 0 x ops i standing in
     let units : text_units (drop i ops) ≡ length op.text + text_units (drop (suc i) ops) = sum_from (λ o. length o.text) ops i op inside is in
+    let edits : edit_count (drop i ops) ≡ part_count op.text + edit_count (drop (suc i) ops) = sum_from (λ o. part_count o.text) ops i op inside is in
     let breaks : text_breaks (drop i ops) ≡ break_count op.text + text_breaks (drop (suc i) ops) = sum_from (λ o. break_count o.text) ops i op inside is in
     let all = sum_by-take-drop {X = Op} (λ o. length o.text) ops i in
+    let all_edits = sum_by-take-drop {X = Op} (λ o. part_count o.text) ops i in
     let all_breaks = sum_by-take-drop {X = Op} (λ o. break_count o.text) ops i in
     record {
       ordered = step.ordered;
@@ -47,6 +52,8 @@ turn_at x ops i done op now standing inside here next is text =
       few = subst (λ t. length t ≤ length x + text_units ops) step.leaves few;
       units = rw (here, next) units;
       left = rw here (omega (arith, all));
+      edits = rw (here, next) edits;
+      edits_left = rw here (omega (arith, all_edits));
       breaks = rw (here, next) breaks;
       breaks_left = rw here (omega (arith, all_breaks));
     }

@@ -5,7 +5,7 @@ ghost use Rattle.unit_text.specs.declared.kind.Kind.TheVariants.{Mixed};
 ghost use Rattle.batch_rules.specs.Batches.{applied_from, text_units, StandFrom};
 ghost use Rattle.text_buffer.specs.Room as text_room;
 ghost use Rattle.text_batches.specs.Growth.{HasGrown};
-ghost use Rattle.text_batches.specs.Needs.{need_of_ops};
+ghost use Rattle.text_batches.specs.Needs.{edit_count, need_of_ops};
 
 use text_buffer::TextBuffer;
 use text_rules::Op;
@@ -18,7 +18,7 @@ pub fn apply_to_text(text: &mut TextBuffer, ops: &[Op])
     requires room { text_room.IsEnough text.old.room (need_of_ops ops.now) }
     ensures units { text.new.units ≡ applied_from 0 text.old.units ops.now }
     ensures kind { text.new.kind ≡ text.old.kind }
-    ensures grown { HasGrown (length ops.now) text.old text.new }
+    ensures grown { HasGrown (edit_count ops.now) text.old text.new }
     ensures spent { text_room.HasSpent (need_of_ops ops.now) text.old.room text.new.room }
 {
     text.seek(ops);

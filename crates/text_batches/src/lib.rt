@@ -5,4 +5,4 @@ mod apply;
 mod needs;
 
 pub use apply::apply_to_text;
-pub use needs::{joined, need_of_batch, need_of_batches, need_of_text};
+pub use needs::{joined, need_of_batch, need_of_batches};

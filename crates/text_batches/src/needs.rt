@@ -1,15 +1,14 @@
 //! The room that batches need.
 
-ghost use Rattle.std.specs.Prelude.{◌≡◌, ◌+◌, ◌≤◌, ◌<◌, ◌^◌, IfOk, IfSome, length};
+ghost use Rattle.std.specs.Prelude.{◌≡◌, ◌+◌, ◌≤◌, ◌<◌, ◌^◌, IfOk, IfSome};
 ghost use Rattle.std.specs.List.{All};
 ghost use Rattle.batch_rules.specs.Batches.{most_units, text_units, FollowFrom};
-ghost use Rattle.line_starts.specs.Starts.{break_count};
-ghost use Rattle.text_batches.specs.Needs.{need_of_ops, need_of_batches, text_breaks};
+ghost use Rattle.text_batches.specs.Needs.{edit_count, need_of_ops, need_of_batches, text_breaks};
 
 use edit_batches::{Batch, SharedBatch};
 use line_starts::count_breaks;
 use std::alloc::AllocError;
-use text_buffer::Need;
+use text_buffer::{Need, part_count};
 use text_rules::Op;
 
 /// Returns the room that the batches need together. The edits of each batch are in order. Fails if that is more than can be reserved.
@@ -34,22 +33,9 @@ pub fn need_of_batch(batch: &Batch) -> Need
     ensures { result ≡ need_of_ops batch.now }
 {
     Need {
-        edits: batch.ops().len() as u64,
+        edits: edit_count(batch.ops()),
         units: batch.text_units(),
         breaks: text_breaks(batch.ops()),
-    }
-}
-
-/// Returns the room that an op with this text needs.
-pub fn need_of_text(units: &[u16]) -> Need
-    ensures edits { result.edits ≡ 1 }
-    ensures units { result.units ≡ length units.now }
-    ensures breaks { result.breaks ≡ break_count units.now }
-{
-    Need {
-        edits: 1,
-        units: units.len() as u64,
-        breaks: count_breaks(units),
     }
 }
 
@@ -64,6 +50,18 @@ pub fn joined(a: Need, b: Need) -> Option<Need>
         units: a.units.checked_add(b.units)?,
         breaks: a.breaks.checked_add(b.breaks)?,
     })
+}
+
+// Returns the number of edits of the ops: one for each part of their texts.
+fn edit_count(ops: &[Op]) -> u64
+    requires { text_units ops.now ≤ most_units }
+    ensures { result ≡ edit_count ops.now }
+{
+    let mut edits = 0;
+    for op in ops {
+        edits += part_count(op.text.as_slice());
+    }
+    edits
 }
 
 // Returns the number of breaks in the texts of all ops.

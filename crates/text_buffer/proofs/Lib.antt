@@ -7,6 +7,7 @@ pub mod FirstLines
 pub mod Found
 pub mod RunCopies
 pub mod LineCopies
+pub mod Parts
 pub mod Reading
 pub mod Followed
 pub mod Edited

@@ -27,6 +27,8 @@ pub record Text : Type 0 where
   pub buffers : List (List ℕ)
   -- the edits that need no allocation
   pub room : Room
+  -- the units that fit in the last buffer
+  pub here : ℕ
 
 -- the units of the pieces, one after another
 abbrev pub spelled : List (List ℕ) → List Piece → List ℕ
@@ -61,6 +63,7 @@ text_of kind tree chunks = record {
   spans = map (λ p. p.span) (pieces_of tree.entries);
   buffers = chunks.buffers;
   room = record { edits = tree.spare; units = chunks.spare; breaks = chunks.spare_breaks };
+  here = chunks.here;
 }
 
 -- and all line endings are of the kind

@@ -17,6 +17,6 @@ mod text;
 mod view;
 
 pub use lines::LineReader;
-pub use room::Need;
+pub use room::{Need, part_count};
 pub use runs::Runs;
 pub use text::TextBuffer;

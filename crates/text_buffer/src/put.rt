@@ -2,7 +2,7 @@
 
 ghost use Rattle.std.specs.Prelude.{◌≡◌, ◌+◌, ◌<◌, ◌≤◌, ◌++◌, None, length, IfSome};
 ghost use Rattle.std.specs.Option.{ForSome};
-ghost use Rattle.chunk_buffers.specs.Chunks.{Extends, EndsLast, unit_count};
+ghost use Rattle.chunk_buffers.specs.Chunks.{Extends, most_appended, unit_count};
 ghost use Rattle.line_starts.specs.Starts.{break_count};
 ghost use Rattle.piece_tree.specs.Pieces.{span_of, IsPieceOf};
 ghost use Rattle.text_buffer.specs.Again.{AreLast};
@@ -21,6 +21,7 @@ pub(crate) fn put_some(
     place: &mut Option<ChunkSpan>,
 ) -> Option<Piece>
     requires room { length (before.now ++ text.now ++ after.now) < chunks.old.spare }
+    requires short { length (before.now ++ text.now ++ after.now) < most_appended }
     requires breaks { break_count (before.now ++ text.now ++ after.now)
         ≤ chunks.old.spare_breaks }
     ensures added { IsAdded chunks.new.buffers (span_of result)
@@ -33,7 +34,7 @@ pub(crate) fn put_some(
         ≤ chunks.new.spare + length (before.now ++ text.now ++ after.now) + 1 }
     ensures spare_breaks { chunks.old.spare_breaks
         ≤ chunks.new.spare_breaks + break_count (before.now ++ text.now ++ after.now) }
-    ensures last { place.old ≡ None → AreLast chunks.old.buffers chunks.new.buffers
+    ensures last { place.old ≡ None → AreLast chunks.old chunks.new
         (span_of result) (before.now ++ text.now ++ after.now) }
 {
     let there = if before.is_empty() && after.is_empty() {
@@ -80,6 +81,7 @@ fn place_in(piece: Option<Piece>, before: usize, units: usize) -> Option<ChunkSp
 // Appends the three texts and returns their piece; None if they are empty.
 fn append_some(chunks: &mut Chunks, before: &[u16], text: &[u16], after: &[u16]) -> Option<Piece>
     requires room { length (before.now ++ text.now ++ after.now) < chunks.old.spare }
+    requires short { length (before.now ++ text.now ++ after.now) < most_appended }
     requires breaks { break_count (before.now ++ text.now ++ after.now)
         ≤ chunks.old.spare_breaks }
     ensures added { IsAdded chunks.new.buffers (span_of result)
@@ -92,8 +94,8 @@ fn append_some(chunks: &mut Chunks, before: &[u16], text: &[u16], after: &[u16])
         ≤ chunks.new.spare + length (before.now ++ text.now ++ after.now) + 1 }
     ensures spare_breaks { chunks.old.spare_breaks
         ≤ chunks.new.spare_breaks + break_count (before.now ++ text.now ++ after.now) }
-    ensures last { IfSome (span_of result) (λ span.
-        EndsLast chunks.old.buffers chunks.new.buffers span (before.now ++ text.now ++ after.now)) }
+    ensures last { AreLast chunks.old chunks.new
+        (span_of result) (before.now ++ text.now ++ after.now) }
 {
     if before.is_empty() && text.is_empty() && after.is_empty() {
         return None;

@@ -1,17 +1,23 @@
 //! The room that edits need.
 
 ghost use Rattle.std.specs.Prelude.{◌≡◌, ◌+◌, ◌*◌, IfOk};
-ghost use Rattle.text_buffer.specs.Room.{units_beside_text, breaks_beside_text};
+ghost use Rattle.text_buffer.specs.Room.{units_beside_text, breaks_beside_text, part_count, need_of_edit};
 
 use crate::beside::{MOST_ALONG, MOST_BREAKS_ALONG};
+use chunk_buffers::MOST_APPENDED;
+use line_starts::count_breaks;
 use piece_tree::MOST_PIECES;
 use std::alloc::AllocError;
 
 /// The most units that an edit appends beside its text: those taken along on both sides, and one that separates buffers.
 pub(crate) const UNITS_AN_EDIT: u64 = 2 * MOST_ALONG as u64 + 1;
 
-/// The most breaks that an edit appends beside those of its text.
-pub(crate) const BREAKS_AN_EDIT: u64 = 2 * MOST_BREAKS_ALONG;
+/// The most breaks that an edit appends beside those of its text: those taken along on both sides, and one in place of a CR LF that is cut
+/// between two parts of a text.
+pub(crate) const BREAKS_AN_EDIT: u64 = 2 * MOST_BREAKS_ALONG + 1;
+
+/// A longer text is put in as several parts, one edit each. With the units beside it a part fits in one append.
+pub(crate) const MOST_PART: usize = MOST_APPENDED as usize - (1 << 16);
 
 /// The most units that are rewritten after an edit.
 pub const MOST_REWRITTEN: usize = 16 * MOST_PIECES;
@@ -24,7 +30,25 @@ pub struct Need {
     pub breaks: u64,
 }
 
+/// Returns the number of parts in which this text is put in, at least 1.
+pub fn part_count(text: &[u16]) -> u64
+    ensures { result ≡ part_count text.now }
+{
+    1 + (text.len().saturating_sub(1) / MOST_PART) as u64
+}
+
 impl Need {
+    /// Returns the need of one edit that replaces a span by this text.
+    pub fn of_edit(text: &[u16]) -> Need
+        ensures { result ≡ need_of_edit text.now }
+    {
+        Need {
+            edits: part_count(text),
+            units: text.len() as u64,
+            breaks: count_breaks(text),
+        }
+    }
+
     /// Returns the need of these edits together with that of rewriting pieces. The numbers saturate.
     pub(crate) fn with_rewriting(self) -> Need {
         Need {

@@ -1,6 +1,6 @@
 //! The text, with its edits.
 
-ghost use Rattle.std.specs.Prelude.{◌≡◌, ◌+◌, ◌-◌, ◌<◌, ◌≤◌, ◌^◌, ◌++◌, [], false, if◌then◌else◌, length, min, take, drop, OnOk, OnErr, IfOk};
+ghost use Rattle.std.specs.Prelude.{◌≡◌, ◌+◌, ◌-◌, ◌*◌, ◌<◌, ◌≤◌, ◌^◌, ◌++◌, [], false, if◌then◌else◌, length, min, take, drop, OnOk, OnErr, IfOk};
 ghost use Rattle.std.specs.List.{All, concat, flat_map};
 ghost use Rattle.chunk_buffers.specs.Chunks.{units_at, unit_count, LiesIn, Extends};
 ghost use Rattle.piece_tree.specs.Costs.{WithinLookUps};
@@ -12,19 +12,18 @@ ghost use Rattle.text_rules.specs.Dirty.{dirty_lines, replaced};
 ghost use Rattle.text_rules.specs.Lines.{Line, lines_of, line_at};
 ghost use Rattle.text_buffer.specs.Again.{TypesOn, CanTypeOn};
 ghost use Rattle.text_buffer.specs.Along.{LeavesLittle};
-ghost use Rattle.text_buffer.specs.Edits.{joins_of, IsTyped, AreSameBefore, AreSameBehind};
+ghost use Rattle.text_buffer.specs.Edits.{AreSameBefore, AreSameBehind};
 ghost use Rattle.text_buffer.specs.Reading.{runs_of, rest_from};
-ghost use Rattle.text_buffer.specs.Room.{IsEnough, KeepsRoom, HasSpent, need_of_edit, units_beside_text};
-ghost use Rattle.text_buffer.specs.Text.{text_of, GrowsAt};
+ghost use Rattle.text_buffer.specs.Room.{IsEnough, KeepsRoom, HasSpent, need_of_edit, part_count, units_beside_text};
+ghost use Rattle.text_buffer.specs.Text.{text_of};
 ghost use Rattle.text_buffer.specs.Views.{IsView};
 
+mod parts;
 mod rewriting;
 
-use crate::beside::units_along;
 use crate::lines::LineReader;
-use crate::put::put_some;
 use crate::remembered::Remembered;
-use crate::room::Need;
+use crate::room::{MOST_PART, Need};
 use crate::runs::Runs;
 use crate::seeking::{look_up_all, look_up_line, look_up_unit};
 use crate::view::View;
@@ -35,7 +34,7 @@ use std::marker::Model;
 use steps::Steps;
 use text_lengths::{Dirty, Position, Span};
 use text_rules::Op;
-use unit_text::{CARRIAGE_RETURN, Flat, Kind, LINE_FEED};
+use unit_text::{Flat, Kind};
 
 /// One text. Contracts see its units, and the spans of its pieces.
 ///
@@ -73,13 +72,16 @@ impl TextBuffer {
         }
     }
 
-    /// Makes a text of these units, whose line endings are of the kind. Fails if memory is short or there are 2^32 units or more.
+    /// Makes a text of these units, whose line endings are of the kind. Fails if memory is short.
     pub fn of_units(alloc: Global, units: &[u16], kind: Kind) -> Result<TextBuffer, AllocError>
         requires { IsOfKind kind units.now }
         ensures units { IfOk result (λ text. text.units ≡ units.now) }
         ensures kind { IfOk result (λ text. text.kind ≡ kind) }
-        ensures spans { IfOk result (λ text. length text.spans ≤ 1) }
+        ensures spans { IfOk result (λ text. length text.spans < 2 * part_count units.now) }
     {
+        if units.len() > MOST_PART {
+            return TextBuffer::of_parts(alloc, units, kind);
+        }
         let copy = Vec::from_slice(alloc, units)?;
         TextBuffer::of_vec(alloc, copy, kind)
     }
@@ -89,13 +91,16 @@ impl TextBuffer {
         requires { IsOfKind kind units.items }
         ensures units { IfOk result (λ text. text.units ≡ units.items) }
         ensures kind { IfOk result (λ text. text.kind ≡ kind) }
-        ensures spans { IfOk result (λ text. length text.spans ≤ 1) }
+        ensures spans { IfOk result (λ text. length text.spans < 2 * part_count units.items) }
     {
         if units.is_empty() {
             return Ok(TextBuffer {
                 kind,
                 ..TextBuffer::new(alloc)
             });
+        }
+        if units.len() > MOST_PART {
+            return TextBuffer::of_parts(alloc, &units, kind);
         }
         let mut pieces = PieceTree::new(alloc);
         let mut chunks = Chunks::new(alloc);
@@ -111,7 +116,7 @@ impl TextBuffer {
     }
 
     /// Reserves room for edits, and if there is memory for it also for pieces that `rewrite_crowded` rewrites after them. Fails if memory is
-    /// short for the edits, or these have 2^32 units or more. On an error the text is unchanged.
+    /// short for the edits. On an error the text is unchanged.
     pub fn reserve(&mut self, need: Need) -> Result<(), AllocError>
         ensures room { OnOk result (IsEnough self.new.room need) }
         ensures kept { KeepsRoom self.old.room self.new.room }
@@ -209,17 +214,16 @@ impl TextBuffer {
         ensures kind { self.new.kind ≡ self.old.kind }
         ensures units { self.new.units
             ≡ edited self.old.units (record { span = span; text = text.now; force = false }) }
-        ensures pieces { length self.new.spans ≤ length self.old.spans + 2 }
-        ensures taken { LeavesLittle self.old span → length self.new.spans ≤ length self.old.spans }
-        ensures typed { GrowsAt self.old span.start
-            → (joins_of self.old.units span text.now).front ≡ false
-            → length self.new.spans ≤ length self.old.spans }
-        ensures grows { IsTyped span text.now → (joins_of self.old.units span text.now).back ≡ false
-            → GrowsAt self.new (span.start + length text.now) }
+        ensures pieces { length self.new.spans ≤ length self.old.spans + 2 * part_count text.now }
+        ensures taken { LeavesLittle self.old span
+            → length self.new.spans + 2 ≤ length self.old.spans + 2 * part_count text.now }
+        ensures typed { TypesOn self.old self.new span text.now }
+        ensures grows { CanTypeOn self.old self.new span text.now }
         ensures appended { unit_count self.new.buffers
-            ≤ unit_count self.old.buffers + length text.now + units_beside_text }
+            ≤ unit_count self.old.buffers + length text.now
+            + units_beside_text * part_count text.now }
         ensures eight { unit_count self.new.buffers
-            ≤ unit_count self.old.buffers + length text.now + 8 }
+            ≤ unit_count self.old.buffers + length text.now + 8 * part_count text.now }
         ensures grown { Extends self.old.buffers self.new.buffers }
         ensures spent { HasSpent (need_of_edit text.now) self.old.room self.new.room }
         ensures dirty { result ≡ dirty_lines self.old.units span text.now }
@@ -230,7 +234,7 @@ impl TextBuffer {
     }
 
     /// Like `replace`, for a text that may still be in the buffers, as after an undo. If it is at `place` and no units come with it, it is
-    /// not appended. Sets `place` to where the text is now. Any `place` is allowed.
+    /// not appended. Sets `place` to where the text is now, or to None if it has several parts. Any `place` is allowed.
     pub fn replace_again(
         &mut self,
         span: Span,
@@ -247,39 +251,32 @@ impl TextBuffer {
         ensures kind { self.new.kind ≡ self.old.kind }
         ensures units { self.new.units
             ≡ edited self.old.units (record { span = span; text = text.now; force = false }) }
-        ensures pieces { length self.new.spans ≤ length self.old.spans + 2 }
-        ensures taken { LeavesLittle self.old span → length self.new.spans ≤ length self.old.spans }
+        ensures pieces { length self.new.spans ≤ length self.old.spans + 2 * part_count text.now }
+        ensures taken { LeavesLittle self.old span
+            → length self.new.spans + 2 ≤ length self.old.spans + 2 * part_count text.now }
         ensures typed { place.old ≡ None → TypesOn self.old self.new span text.now }
         ensures grows { place.old ≡ None → CanTypeOn self.old self.new span text.now }
         ensures appended { unit_count self.new.buffers
-            ≤ unit_count self.old.buffers + length text.now + units_beside_text }
+            ≤ unit_count self.old.buffers + length text.now
+            + units_beside_text * part_count text.now }
         ensures eight { unit_count self.new.buffers
-            ≤ unit_count self.old.buffers + length text.now + 8 }
+            ≤ unit_count self.old.buffers + length text.now + 8 * part_count text.now }
         ensures grown { Extends self.old.buffers self.new.buffers }
         ensures spent { HasSpent (need_of_edit text.now) self.old.room self.new.room }
         ensures dirty { result ≡ dirty_lines self.old.units span text.now }
         ensures before { AreSameBefore result self.old.units self.new.units }
         ensures after { AreSameBehind result self.old.units self.new.units }
     {
-        let view = View {
-            pieces: &self.pieces,
-            chunks: &self.chunks,
-            remembered: &self.remembered,
-        };
-        let ends = view.ends_of(span);
-        let joins = view.joins_of(&ends, text);
-        let dirty = view.dirty_between(&ends, joins, text);
-        let rests = view.rests_of(&ends, text);
-        let front = units_along(&self.chunks, rests.front, joins.front, CARRIAGE_RETURN);
-        let back = units_along(&self.chunks, rests.back, joins.back, LINE_FEED);
-        let before = front.as_slice();
-        let after = back.as_slice();
-        let at = view.found_before(&ends.start, before.len() as u64);
-        let from = span.start - before.len() as u64;
-        let to = span.end + after.len() as u64;
-        let added = put_some(&mut self.chunks, before, text, after, place);
-        let told = self.pieces.splice(at, from, to - from, added, &self.chunks);
-        self.remembered.change_from(from, told);
+        if text.len() <= MOST_PART {
+            return self.replace_part(span, text, place);
+        }
+        let dirty = self.dirty_lines(span, text);
+        let kind = self.kind;
+        // A part may end inside a line ending.
+        self.kind = Kind::Mixed;
+        self.replace_parts(span, text);
+        self.kind = kind;
+        *place = None;
         dirty
     }
 
@@ -290,10 +287,10 @@ impl TextBuffer {
         requires room { IsEnough self.old.room (need_of_edit units.now) }
         ensures units { self.new.units ≡ units.now }
         ensures kind { self.new.kind ≡ kind }
-        ensures pieces { length self.new.spans ≤ 1 }
+        ensures pieces { length self.new.spans < 2 * part_count units.now }
         ensures few { length self.new.spans ≤ length units.now }
         ensures appended { unit_count self.new.buffers
-            ≤ unit_count self.old.buffers + length units.now + 8 }
+            ≤ unit_count self.old.buffers + length units.now + 8 * part_count units.now }
         ensures grown { Extends self.old.buffers self.new.buffers }
         ensures spent { HasSpent (need_of_edit units.now) self.old.room self.new.room }
     {
@@ -301,31 +298,29 @@ impl TextBuffer {
     }
 
     /// Like `recast`, for a text that may still be in the buffers. If it is at `place`, it is not appended. Sets `place` to where the text is
-    /// now. Any `place` is allowed.
+    /// now, or to None if it has several parts. Any `place` is allowed.
     pub fn recast_again(&mut self, kind: Kind, units: &[u16], place: &mut Option<ChunkSpan>)
         requires endings { IsOfKind kind units.now }
         requires small { length units.now < 2 ^ 62 }
         requires room { IsEnough self.old.room (need_of_edit units.now) }
         ensures units { self.new.units ≡ units.now }
         ensures kind { self.new.kind ≡ kind }
-        ensures pieces { length self.new.spans ≤ 1 }
+        ensures pieces { length self.new.spans < 2 * part_count units.now }
         ensures few { length self.new.spans ≤ length units.now }
         ensures appended { unit_count self.new.buffers
-            ≤ unit_count self.old.buffers + length units.now + 8 }
+            ≤ unit_count self.old.buffers + length units.now + 8 * part_count units.now }
         ensures grown { Extends self.old.buffers self.new.buffers }
         ensures spent { HasSpent (need_of_edit units.now) self.old.room self.new.room }
     {
-        let view = View {
-            pieces: &self.pieces,
-            chunks: &self.chunks,
-            remembered: &self.remembered,
-        };
-        let first = view.first_piece();
-        let len = view.len();
-        let added = put_some(&mut self.chunks, &[], units, &[], place);
-        let told = self.pieces.splice(first, 0, len, added, &self.chunks);
-        self.remembered.change_from(0, told);
+        if units.len() <= MOST_PART {
+            return self.recast_part(kind, units, place);
+        }
+        let (first, rest) = units.split_at(MOST_PART);
+        let end = MOST_PART as u64;
+        self.recast_part(Kind::Mixed, first, &mut None);
+        self.replace_parts(Span { start: end, end }, rest);
         self.kind = kind;
+        *place = None;
     }
 
     /// Returns a reader of the lines, for one after another.

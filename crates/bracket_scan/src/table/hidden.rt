@@ -137,7 +137,13 @@ impl BracketTable {
         ensures len { result.len ≡ suc (units_after_first result.token) }
         ensures behind { result.behind ≡ code }
     {
-        let token = self.longest(at, units);
+        // What it holds is a table.
+        let _texts = &self.texts;
+        let token = if self.may_begin(units[0]) {
+            self.longest(at, units)
+        } else {
+            None
+        };
         let len = match token {
             Some(token) => token.len as usize,
             None => 1,

@@ -1,6 +1,6 @@
 //! Rewrites the text after a change.
 
-ghost use Rattle.std.specs.Prelude.{◌≡◌, ◌+◌, ◌≤◌, ◌&&◌, ◌==◌, true, false, length, IfSome, is_some, IsTrue};
+ghost use Rattle.std.specs.Prelude.{◌≡◌, ◌+◌, ◌≤◌, true, false, length};
 ghost use Rattle.chunk_buffers.specs.Chunks.{at_most_64_bits};
 ghost use Rattle.text_buffer.specs.Rewriting.{most_rewritten};
 ghost use Rattle.model_core.specs.Compact.{CanRewrite, IsCompacted, IsRewritten};
@@ -53,7 +53,6 @@ impl Model {
         ensures due { due ≡ false → result ≡ false }
         ensures sure { due ≡ true → CanRewrite room self.old → result ≡ true }
         ensures model { IsCompacted self.old self.new }
-        ensures written { result ≡ true → self.new.pieces ≤ 1 }
         ensures alone { result ≡ true → self.new.held ≤ length self.new.document.units + 8 }
         ensures same { result ≡ false → self.new ≡ self.old }
     {

@@ -27,7 +27,7 @@ impl Model {
         ensures document { Moves result self.old.document self.new.document
             (flat_eol self.old.document kind) }
         ensures paired_state { IsPairedState self.old.document → IsPairedState self.new.document }
-        ensures parse { HasRecast result self.old self.new }
+        ensures parse { HasRecast kind result self.old self.new }
         ensures held { result ≡ Ok true → KeepsBoundBy (recast_of self.old.document kind) self.old self.new }
     {
         let Some(ready) = self.prepare_eol(kind)? else {

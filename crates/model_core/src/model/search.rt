@@ -8,9 +8,7 @@ ghost use Rattle.document_rules.specs.Paired.{IsPairedState};
 ghost use Rattle.search_rules.specs.Occurrences.{AreOccurrences};
 ghost use Rattle.search_rules.specs.Replacing.{flat_find, flat_replace_all, replaced, replacing, TakesBack};
 ghost use Rattle.model_core.specs.Compact.{KeepsBoundBy};
-ghost use Rattle.model_core.specs.Edited.{ops_as_done};
-ghost use Rattle.model_core.specs.Prepared.{batch_of};
-ghost use Rattle.model_core.specs.Replaced.{replacing_ops, IsForRoom, HasReplaced, PreparesReplace};
+ghost use Rattle.model_core.specs.Replaced.{replacement_of, IsForRoom, HasReplaced, PreparesReplace};
 ghost use Rattle.model_core.specs.State.{KeepsParse};
 
 use crate::model::Model;
@@ -70,9 +68,8 @@ impl Model {
         ensures paired_state { IsPaired with.now
             → IsPairedState self.old.document → IsPairedState self.new.document }
         ensures parse { HasReplaced sought.now with.now result self.old self.new }
-        ensures held { let f = self.old.document in
-            let action = batch_of f (ops_as_done f (replacing_ops f sought.now with.now)) in
-            result ≡ Ok true → KeepsBoundBy action self.old self.new }
+        ensures held { result ≡ Ok true → KeepsBoundBy
+            (replacement_of self.old.document sought.now with.now) self.old self.new }
     {
         let Some(ready) = self.prepare_replace_all(sought, with)? else {
             return Ok(false);

@@ -5,7 +5,7 @@ use Rattle.std.proofs.lemmas.List.Elements.{All-get_or}
 use Rattle.std.proofs.lemmas.Option.{get_or_from_slice_get, slice_get_within}
 use Rattle.batch_rules.specs.Batches.{most_units, text_units}
 use Rattle.edit_stack.specs.Element.{step_of}
-use Rattle.text_batches.specs.Needs.{text_breaks}
+use Rattle.text_batches.specs.Needs.{edit_count, text_breaks}
 use Rattle.model_page.specs.declared.change.Change.{Change}
 use Rattle.model_page.specs.Changes.{ops_by}
 use Rattle.model_page.proofs.change.need_of_step.Goals as goal
@@ -26,10 +26,10 @@ loop-at-preserved c =
     let at = c.loop-at.at in
     let change = c.change.result.now in
     let is : get_or cs at change ≡ change = get_or_from_slice_get cs at change change c.change.ensures in
-    let edits = sum_by_more {X = Change} (λ d. length (ops_by way d)) cs at change (omega arith) in
+    let edits = sum_by_more {X = Change} (λ d. edit_count (ops_by way d)) cs at change (omega arith) in
     let units = sum_by_more {X = Change} (λ d. text_units (ops_by way d)) cs at change (omega arith) in
     let breaks = sum_by_more {X = Change} (λ d. text_breaks (ops_by way d)) cs at change (omega arith) in
-    let own_edits = ap (λ (d : Change). length (ops_by way d)) is in
+    let own_edits = ap (λ (d : Change). edit_count (ops_by way d)) is in
     let own_units = ap (λ (d : Change). text_units (ops_by way d)) is in
     let own_breaks = ap (λ (d : Change). text_breaks (ops_by way d)) is in
     record {

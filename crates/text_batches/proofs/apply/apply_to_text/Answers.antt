@@ -1,7 +1,7 @@
-use Rattle.std.proofs.Common.{◌≡◌, refl, sym, subst, ◌∙◌, arith}
+use Rattle.std.proofs.Common.{◌≡◌, refl, ap, sym, subst, ◌∙◌, arith}
 use Rattle.unit_text.specs.declared.kind.Kind.TheVariants.{Mixed}
 use Rattle.text_rules.specs.Edits.{edited}
-use Rattle.text_buffer.specs.Room.{HasSpent, need_of_edit}
+use Rattle.text_buffer.specs.Room.{HasSpent, need_of_edit, part_count}
 use Rattle.text_batches.proofs.Texts.{IsTextAfter, text_before, text_after, text_turn, room_now}
 use Rattle.text_batches.proofs.Turns.{turn, IsTurn}
 use Rattle.text_batches.proofs.apply.apply_to_text.Goals as goal
@@ -22,7 +22,7 @@ replace-requires-clause-within c = (turn_now (goal.at.replace-requires-clause-wi
 pub replace-requires-clause-room : goal.replace-requires-clause-room
 replace-requires-clause-room c =
     let turn = turn_now (goal.at.replace-requires-clause-room c).After-index-ops-ops in
-    rw c.as_slice.ensures (room_now c.args.text.now c.args.ops.now c.loop-done.text c.loop-done.done c.index-ops-ops.result c.loop-done.invariant turn c.loop-done-test.true c.requires.room)
+    rw c.as_slice.ensures (room_now c.args.text.now c.args.ops.now c.loop-done.text c.loop-done.done c.index-ops-ops.result c.loop-done.invariant turn c.requires.room)
 
 pub replace-requires-clause-small : goal.replace-requires-clause-small
 replace-requires-clause-small c =
@@ -42,7 +42,7 @@ loop-done-preserved c =
     let spent : HasSpent (need_of_edit op.text) c.loop-done.text.room c.replace.new.self.room =
     subst (λ t. HasSpent (need_of_edit t) c.loop-done.text.room c.replace.new.self.room) c.as_slice.ensures c.replace.ensures.spent in
     text_turn c.args.text.now c.args.ops.now c.loop-done.text c.loop-done.done op c.loop-done.invariant turn c.replace.new.self
-    units c.replace.ensures.kind c.replace.ensures.pieces c.replace.ensures.grown spent
+    units c.replace.ensures.kind (omega (arith, c.replace.ensures.pieces, ap (λ t. part_count t) c.as_slice.ensures)) c.replace.ensures.grown spent
 
 pub returns : goal.returns
 returns c =

@@ -29,7 +29,7 @@ is_too_much-requires-clause-removed g c =
     omega (
       arith,
       c.len.ensures,
-      removed-within c.self.inside.tree.marks c.args.owner c.args.remove.now c.self.invariant.distinct
+      removed-within c.self.inside.tree.marks c.args.owner c.args.remove.now c.self.invariant.0.distinct
           (sym c.owns_all.ensures ∙ c.if-not-owns_all.false) c.in_ok-named_once.ensures.ok,
     )
 
@@ -38,7 +38,7 @@ counted : (g : Over) (c : After-is_too_much g)
     → is_too_much (record { marks = c.self.inside.tree.marks; next_id = c.self.inside.next_id }) c.args.remove.now (length c.args.add.now) ≡ c.is_too_much.result
 counted g c =
     is_too_much-by_length (record { marks = c.self.inside.tree.marks; next_id = c.self.inside.next_id }) c.args.owner c.args.remove.now c.len.result (length c.args.add.now)
-    c.self.invariant.distinct (sym c.owns_all.ensures ∙ c.if-not-owns_all.false) c.in_ok-named_once.ensures.ok c.len.ensures
+    c.self.invariant.0.distinct (sym c.owns_all.ensures ∙ c.if-not-owns_all.false) c.in_ok-named_once.ensures.ok c.len.ensures
     ∙ sym c.is_too_much.ensures
 
 known : (g : Over) (c : After-is_too_much g) → is_unknown c.self.inside.tree.marks c.args.owner c.args.remove.now ≡ false

@@ -3,14 +3,14 @@ use Rattle.std.proofs.lemmas.Grind.{common_steps}
 use Rattle.edit_stack.specs.Element.{step_of}
 use Rattle.document_rules.specs.Document.{FlatText, FlatState, greatest_version}
 use Rattle.snapshots.specs.Shown as shelves
-use Rattle.model_page.specs.Counts.{op_count, marking_count, unit_count, breaks_along}
+use Rattle.model_page.specs.Counts.{edit_count_along, marking_count, unit_count, breaks_along}
 use Rattle.model_page.specs.State.{flat_text, is_fresh}
 use Rattle.model_page.specs.Ways.{text_by, changes_by, decorations_by, marked_along}
 use Rattle.model_page.specs.LineMarks.{marked_step}
 use Rattle.model_page.proofs.Staying.{marked_by_way, kept_as}
 use Rattle.model_core.specs.State.{ModelState}
 use Rattle.model_core.specs.History.{latest_along}
-use Rattle.model_core.specs.Prepared.{next_op_count, next_marking_count, next_unit_count, next_break_count}
+use Rattle.model_core.specs.Prepared.{next_edit_count, next_marking_count, next_unit_count, next_break_count}
 use Rattle.model_core.specs.Ways.{next_steps, passed, alternative_after, flat_move}
 use Rattle.model_core.proofs.Shelving.{shown-grown, IsShelf-grown}
 use Rattle.model_core.proofs.Held.{held_grows}
@@ -43,8 +43,8 @@ pub lead-requires : goal.lead-requires
 lead-requires c =
     let way = c.args.way in
     let step = step_taken (goal.at.lead-requires c).In-Some in
-    let edits : op_count way (step_of c.in-Some.step.now).changes ≡ next_op_count (next_steps way c.args.self.now.document.history) =
-    sym step.ops ∙ ap (λ (s : ModelState). next_op_count (next_steps way s.document.history)) c.self.view_is in
+    let edits : edit_count_along way (step_of c.in-Some.step.now).changes ≡ next_edit_count way (next_steps way c.args.self.now.document.history) =
+    sym step.edits ∙ ap (λ (s : ModelState). next_edit_count way (next_steps way s.document.history)) c.self.view_is in
     let units : unit_count way (step_of c.in-Some.step.now).changes ≡ next_unit_count way (next_steps way c.args.self.now.document.history) =
     sym step.units ∙ ap (λ (s : ModelState). next_unit_count way (next_steps way s.document.history)) c.self.view_is in
     let breaks : breaks_along way (step_of c.in-Some.step.now).changes ≡ next_break_count way (next_steps way c.args.self.now.document.history) =
@@ -104,8 +104,8 @@ returns-clause-parse c =
     let way = c.args.way in
     let changes = (step_of c.in-Some.step.now).changes in
     let step = step_taken (goal.at.returns-clause-parse c).In-Some in
-    let ops : op_count way changes ≡ next_op_count (next_steps way c.args.self.now.document.history) =
-    sym step.ops ∙ ap (λ (s : ModelState). next_op_count (next_steps way s.document.history)) c.self.view_is in
+    let ops : edit_count_along way changes ≡ next_edit_count way (next_steps way c.args.self.now.document.history) =
+    sym step.edits ∙ ap (λ (s : ModelState). next_edit_count way (next_steps way s.document.history)) c.self.view_is in
     let marking : marking_count way changes ≡ next_marking_count (next_steps way c.args.self.now.document.history) =
     sym step.marking ∙ ap (λ (s : ModelState). next_marking_count (next_steps way s.document.history)) c.self.view_is in
     let fresh : is_fresh page ≡ c.args.self.now.fresh = ap (λ (s : ModelState). s.fresh) c.self.view_is in
@@ -126,8 +126,8 @@ returns-clause-held c =
     let changes = (step_of c.in-Some.step.now).changes in
     let step = step_taken (goal.at.returns-clause-held c).In-Some in
     let was = ap (λ (s : ModelState). s.held) c.self.view_is in
-    let edits : op_count way changes ≡ next_op_count (next_steps way c.args.self.now.document.history) =
-    sym step.ops ∙ ap (λ (s : ModelState). next_op_count (next_steps way s.document.history)) c.self.view_is in
+    let edits : edit_count_along way changes ≡ next_edit_count way (next_steps way c.args.self.now.document.history) =
+    sym step.edits ∙ ap (λ (s : ModelState). next_edit_count way (next_steps way s.document.history)) c.self.view_is in
     let units : unit_count way changes ≡ next_unit_count way (next_steps way c.args.self.now.document.history) =
     sym step.units ∙ ap (λ (s : ModelState). next_unit_count way (next_steps way s.document.history)) c.self.view_is in record {
       kept = omega (arith, was, held_grows c.self.inside.page.text.buffers c.lead.new.self.text.buffers c.lead.ensures.grown.buffers);

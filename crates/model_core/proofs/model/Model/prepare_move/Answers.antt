@@ -83,7 +83,7 @@ returns-clause-ready c =
     let told : c.in_ok-need.need ≡ need_along way changes = grind (arith, common_steps) in
     let enough : HasRoom c.reserve.new.self c.in_ok-need.need = grind (arith, common_steps) in
     let room : HasRoom c.reserve.new.self (need_along way changes) = subst (HasRoom c.reserve.new.self) told enough in
-    let edits = step.ops in
+    let edits = step.edits in
     let units = step.units in
     let breaks = step.breaks in
     move_ready way _ c.making.result c.making.ensures.action (omega (arith, next, c.making.ensures.version)) (grind (arith, common_steps))

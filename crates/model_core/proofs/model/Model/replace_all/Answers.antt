@@ -1,10 +1,9 @@
 use Rattle.std.proofs.Common.{Option, Ok, subst}
 use Rattle.search_rules.proofs.Replacing.{replaced_units, replaced_taken_back, replaced_paired}
 use Rattle.document_rules.specs.Document.{FlatState}
-use Rattle.model_core.specs.Edited.{ops_as_done}
-use Rattle.model_core.specs.Prepared.{Prepared, batch_of}
+use Rattle.model_core.specs.Prepared.{Prepared}
 use Rattle.model_core.proofs.Held.{bound_as_prepared}
-use Rattle.model_core.specs.Replaced.{replacing_ops, PreparesReplace}
+use Rattle.model_core.specs.Replaced.{replacement_of, PreparesReplace}
 use Rattle.model_core.proofs.Searching.{IsReplaced, replaced_as_prepared}
 use Rattle.model_core.proofs.model.Model.replace_all.Goals as goal
 use Rattle.model_core.proofs.model.Model.replace_all.Goals.{After-commit_alone}
@@ -42,5 +41,5 @@ pub returns-clause-held : goal.returns-clause-held
 returns-clause-held c =
     let mid = c.prepare_replace_all.new.self in
     let is = subst (λ (o : Option Prepared). PreparesReplace c.args.sought.now c.args.with.now (Ok o) mid) c.in-Some.is c.in_ok-ready.ensures.ready in
-    λ done. bound_as_prepared c.in-Some.ready.action (λ (f : FlatState). batch_of f (ops_as_done f (replacing_ops f c.args.sought.now c.args.with.now))) c.args.self.now mid c.commit_alone.new.self
+    λ done. bound_as_prepared c.in-Some.ready.action (λ (f : FlatState). replacement_of f c.args.sought.now c.args.with.now) c.args.self.now mid c.commit_alone.new.self
     is.ready.action c.prepare_replace_all.ensures.document c.prepare_replace_all.ensures.parse c.commit_alone.ensures.held

@@ -74,7 +74,7 @@ replace_again-dirty-requires-clause-room c =
     let at = (goal.at.replace_again-dirty-requires-clause-room c).After-edit_with-edit in
     let turn = turn_now at in
     room_now c.args.self.now.text c.args.ops.now c.loop-done.self-inside.text c.loop-done.done (op_of c.op-op.result) c.loop-done.invariant.text turn
-    (inside at) c.requires.room.text
+    c.requires.room.text
 
 pub replace_again-dirty-requires-clause-small : goal.replace_again-dirty-requires-clause-small
 replace_again-dirty-requires-clause-small c =
@@ -109,6 +109,11 @@ mark-requires-clause-some c = (edit_is (goal.at.mark-requires-clause-some c).Aft
 
 pub mark-requires-clause-new : goal.mark-requires-clause-new
 mark-requires-clause-new c = (edit_is (goal.at.mark-requires-clause-new c).After-replace_again-dirty).more
+
+pub mark-requires-clause-room : goal.mark-requires-clause-room
+mark-requires-clause-room c =
+    let turn = turn_now (goal.at.mark-requires-clause-room c).After-edit_with-edit in
+    omega (arith, c.loop-done.invariant.spare, c.requires.room.marks, turn.edits, turn.edits_left)
 
 pub mark-requires-clause-within : goal.mark-requires-clause-within
 mark-requires-clause-within c =
@@ -147,8 +152,8 @@ loop-done-preserved c =
           (inside at) (op_is at) before.text.units before.marks;
       lines = ap length c.mark.ensures.marks ∙ marks_lines now.text.units op c.replace_again-dirty.result edit now.last.marks before.lines
           ∙ ap (λ u. length (lines_of u)) (sym left);
-      spare = omega (arith, before.spare, c.mark.ensures.room);
-      appended = omega (arith, before.appended, c.replace_again-dirty.ensures.eight, turn.units);
+      spare = omega (arith, before.spare, c.mark.ensures.room, turn.edits);
+      appended = omega (arith, before.appended, c.replace_again-dirty.ensures.eight, turn.edits, turn.units);
       parse = record {
         scanner = before.parse.scanner;
         parsed = c.mark.ensures.parsed ∙ before.parse.parsed;

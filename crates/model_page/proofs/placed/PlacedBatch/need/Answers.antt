@@ -3,5 +3,5 @@ use Rattle.model_page.specs.Placed.{IsKept}
 use Rattle.model_page.proofs.placed.PlacedBatch.need.Goals as goal
 
 -- the text has no more units than there is room for
-pub shared_ref_as_front-need_of_text : goal.shared_ref_as_front-need_of_text
-shared_ref_as_front-need_of_text c = (subst IsKept c.in-Short.is c.self.invariant).0
+pub shared_ref_as_front-of_edit : goal.shared_ref_as_front-of_edit
+shared_ref_as_front-of_edit c = (subst IsKept c.in-Short.is c.self.invariant).0

@@ -12,6 +12,7 @@ use Rattle.text_rules.specs.Lines.{carriage_return, line_feed, lines_of}
 use Rattle.text_rules.specs.Dirty.{dirty_lines}
 use Rattle.unit_text.specs.Kinds.{IsOfKind}
 use Rattle.text_buffer.specs.declared.beside.TheConstants.{MOST_BREAKS_ALONG}
+use Rattle.text_buffer.specs.Room.{units_beside_text}
 use Rattle.text_buffer.specs.Text.{text_of, most_along, GrowsAt}
 use Rattle.text_buffer.specs.Along.{is_little, rest_before, rest_behind, units_along, LeavesLittle}
 use Rattle.text_buffer.proofs.Touched.{before_dirty, after_dirty}
@@ -23,8 +24,8 @@ use Rattle.text_buffer.proofs.Extended.{pieces-extended}
 use Rattle.text_buffer.proofs.Edited.{IsReplaced, IsReplaced-of, front_border, units-listed, length-edited}
 use Rattle.text_buffer.proofs.Growing.{split_spans, adds_none, grows_later, at_border, takes_place}
 use Rattle.text_buffer.proofs.Found.{units_shown, own, pieces_are}
-use Rattle.text_buffer.proofs.text.TextBuffer.replace_again.Goals as goal
-use Rattle.text_buffer.proofs.text.TextBuffer.replace_again.Goals.{After-rests_of-rests, After-as_slice-after, After-splice-told}
+use Rattle.text_buffer.proofs.text.TextBuffer.replace_part.Goals as goal
+use Rattle.text_buffer.proofs.text.TextBuffer.replace_part.Goals.{After-rests_of-rests, After-as_slice-after, After-splice-told}
 
 -- what was asked at the two ends
 front_is : (c : After-rests_of-rests) → c.joins_of-joins.result.front ≡ joins_pair (take c.args.span.start c.args.self.now.units) (c.args.text.now ++ drop c.args.span.end c.args.self.now.units)
@@ -255,6 +256,13 @@ returns-clause-taken c = λ little.
     let few = taken_in (goal.at.returns-clause-taken c).After-splice-told us p vs is (omega (arith, one, two, place.some)) first last in
     omega (arith, few, length-map (pieces_of c.splice-told.new.self.entries) (λ p. p.span), length-map ps (λ p. p.span), ap (λ v. length v.spans) c.self.view_is)
 
+-- the text fits in the last buffer with what is taken along
+fits_here : (c : After-as_slice-after) → length c.args.text.now + units_beside_text ≤ c.args.self.now.here → length c.as_slice-before.result.now ≤ most_along
+    → length c.as_slice-after.result.now ≤ most_along → length (c.as_slice-before.result.now ++ c.args.text.now ++ c.as_slice-after.result.now) < c.self.inside.chunks.here
+fits_here c fits one two =
+    let before = c.as_slice-before.result.now in let after = c.as_slice-after.result.now in
+    omega (arith, fits, one, two, length-append (before ++ c.args.text.now) after, length-append before c.args.text.now, ap (λ v. v.here) c.self.view_is)
+
 -- where the text goes on from a span, the place stands inside no piece, and nothing is taken along before it
 none_ahead : (c : After-as_slice-after) → ((part : ChunkSpan) → c.rests_of-rests.result.front ≡ Some part → rest_before c.self.inside.chunks.buffers c.ends_of-ends.result.start.found c.ends_of-ends.result.start.offset ≡ Some part)
     → GrowsAt (text_of c.self.inside.kind c.self.inside.pieces c.self.inside.chunks) c.args.span.start → c.joins_of-joins.result.front ≡ false → length c.as_slice-before.result.now ≡ 0
@@ -270,7 +278,7 @@ none_ahead c rest place apart =
     (omega (arith, before, units, count, place.ends, cut, (ap (λ s. s.start) c.ends_of-ends.ensures.span))) (omega (arith, before, units, count, place.ends, has.end, (ap (λ s. s.start) c.ends_of-ends.ensures.span)))) apart)
 
 pub returns-clause-typed : goal.returns-clause-typed
-returns-clause-typed c = λ unplaced grows none.
+returns-clause-typed c = λ unplaced fits grows none.
     let to = goal.at.returns-clause-typed c in let at = to.After-rests_of-rests in
     let old = c.self.inside.chunks.buffers in
     let new = c.put_some-added.new.chunks.buffers in
@@ -294,7 +302,7 @@ returns-clause-typed c = λ unplaced grows none.
     (front_is at) (back_is at) ahead_is behind_is in
     let few = adds_none old new ps us p vs from is ends last end c.self.invariant.seen.text.full c.self.invariant.seen.text.pieces (before ++ text ++ after)
     (subst (λ y. joins_pair (take from y) (before ++ text ++ after) ≡ false) (sym x_is) border) (span_of c.put_some-added.result)
-    (from + (c.args.span.end + length after - from)) (omega arith) (c.put_some-added.ensures.last unplaced) in
+    (from + (c.args.span.end + length after - from)) (omega arith) (c.put_some-added.ensures.last unplaced (fits_here to.After-as_slice-after fits.here ahead_is.few behind_is.few)) in
     omega (
       arith,
       few,
@@ -315,7 +323,7 @@ none_behind c rest same apart =
     ∙ none_along c.self.inside.chunks.buffers c.rests_of-rests.result.back c.joins_of-joins.result.back line_feed (λ part e. absurd (false≢true (sym (rest part e).0 ∙ eq-eqb start end one))) apart)
 
 pub returns-clause-grows : goal.returns-clause-grows
-returns-clause-grows c = λ unplaced (same, some) none.
+returns-clause-grows c = λ unplaced fits (same, some) none.
     let to = goal.at.returns-clause-grows c in let at = to.After-rests_of-rests in
     let old = c.self.inside.chunks.buffers in
     let new = c.put_some-added.new.chunks.buffers in
@@ -326,11 +334,13 @@ returns-clause-grows c = λ unplaced (same, some) none.
     let from = c.args.span.start - length before in
     let till = from + (c.args.span.end + length after - from) in
     let count = units_shown c.self.inside.pieces c.self.inside.chunks c.args.self.now c.self.invariant.seen.text c.self.view_is in
-    let there = (ahead to.After-as_slice-after (front_is at) (front_rest at)).there in
+    let ahead_is = ahead to.After-as_slice-after (front_is at) (front_rest at) in
+    let behind_is = behind to.After-as_slice-after (back_is at) (λ part e. (back_rest at part e).1) in
+    let there = ahead_is.there in
     let none_taken = none_behind to.After-as_slice-after (back_rest at) same (back_is at ∙ none) in
     let added_size : length (before ++ text ++ after) ≡ length before + length text = omega (arith, length-append (before ++ text) after, length-append before text, none_taken) in
     grows_later (text_of c.self.inside.kind c.splice-told.new.self c.put_some-added.new.chunks) old new (front new from ps) (back new till ps) (span_of c.put_some-added.result) (before ++ text ++ after) (c.args.span.start + length text)
-    c.put_some-added.ensures.added (c.put_some-added.ensures.last unplaced) (omega (arith, some, added_size)) (ap (map (λ p. p.span)) c.splice-told.ensures.spliced) refl
+    c.put_some-added.ensures.added (c.put_some-added.ensures.last unplaced (fits_here to.After-as_slice-after fits.here ahead_is.few behind_is.few)) (omega (arith, some, added_size)) (ap (map (λ p. p.span)) c.splice-told.ensures.spliced) refl
     (omega (arith, added_size, units-front new from ps (omega (arith, count, c.requires.ordered, c.requires.within)), there))
 
 pub returns-clause-appended : goal.returns-clause-appended
@@ -367,6 +377,3 @@ pub returns-clause-after : goal.returns-clause-after
 returns-clause-after c =
     ap (λ x. drop (c.dirty_between-dirty.result.first - 1 + c.dirty_between-dirty.result.new) (lines_of x)) (returns-clause-units c)
     ∙ after_dirty c.args.self.now.units c.args.span c.args.text.now c.requires.ordered c.requires.within c.dirty_between-dirty.result (returns-clause-dirty c)
-
-pub returns-clause-eight : goal.returns-clause-eight
-returns-clause-eight c = omega (arith, returns-clause-appended c)
