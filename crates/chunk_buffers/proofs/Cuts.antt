@@ -1,8 +1,8 @@
 -- The breaks of a part of a text, by the places at which the breaks of the whole end.
 use Rattle.std.proofs.Common.{◌≡◌, ℕ, ◌+◌, ◌-◌, ◌≤◌, ◌<◌, ◌==◌, leb, Bool, true, false, ◌&&◌, if◌then◌else◌, List, [], ◌∷◌, ◌++◌, length, take, drop, get_or, map, refl, ap, sym, ◌∙◌, add-zero, arith}
-use Rattle.std.proofs.Common.{Result, Ok, Err}
+use Rattle.std.proofs.Common.{Result, Ok, Err, inl, inr}
 use Rattle.std.specs.Prelude.{IsOk, OnOk}
-use Rattle.std.proofs.lemmas.Bool.{leb-true, lt-leb, both_ways}
+use Rattle.std.proofs.lemmas.Bool.{leb-true, lt-leb, both_ways, cases_lt}
 use Rattle.std.proofs.lemmas.List.{drop-drop, length-drop, length-append, length-map, length-take-le, get_or-map, get_or-drop, get_or-take, get_or_append_left, get_or_at}
 use Rattle.std.proofs.lemmas.List.Sums.{prefix_len-le-length, prefix_len_passes}
 use Rattle.text_rules.specs.Lines.{line_feed, carriage_return, line_start}
@@ -154,3 +154,23 @@ ends_with_by_last x b e = ends_with_last x ∙ e
 pub on_ok_at : {T E : Type 0} (r : Result T E) (P : Type 0) → IsOk r → OnOk r P → P
 on_ok_at (Ok x) P h p = p
 on_ok_at (Err e) P h p = absurd (both_ways false refl h)
+
+-- the first break that ends after a place, and the places up to which it counts
+module _ (x : List ℕ) (from to : ℕ) (some : count_to from (break_ends 0 x) < length (break_ends 0 x)) where
+  abbrev next : ℕ
+  next = get_or (break_ends 0 x) (count_to from (break_ends 0 x)) 0
+
+  pub next_behind : from < next
+  next_behind = ends_behind from x (count_to from (break_ends 0 x)) (omega arith) some
+
+  pub next_counts : next ≤ to → count_to from (break_ends 0 x) < count_to to (break_ends 0 x)
+  next_counts h = elim (cases_lt (count_to from (break_ends 0 x)) (count_to to (break_ends 0 x))) [
+    | inl counts ↦ counts
+    | inr past ↦ absurd (omega (arith, ends_behind to x (count_to from (break_ends 0 x)) past some))
+  ]
+
+  pub next_past : to < next → count_to to (break_ends 0 x) ≤ count_to from (break_ends 0 x)
+  next_past h = elim (cases_lt (count_to from (break_ends 0 x)) (count_to to (break_ends 0 x))) [
+    | inl counts ↦ absurd (omega (arith, ends_by to x (count_to from (break_ends 0 x)) counts))
+    | inr past ↦ past
+  ]

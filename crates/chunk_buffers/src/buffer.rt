@@ -2,7 +2,7 @@
 
 ghost use Rattle.std.specs.Prelude.{◌≡◌, ℕ, ◌+◌, ◌-◌, ◌<◌, ◌≤◌, ◌&&◌, ◌==◌, ◌^◌, ◌++◌, ◌∷◌, if◌then◌else◌, List, [], length, take, drop, get_or, OnOk, OnErr, IfOk, IsOk, vec_len, vec_capacity};
 ghost use Rattle.std.specs.List.Sorted.{IsNonDecreasingBy};
-ghost use Rattle.chunk_buffers.specs.Buffer.{Filled, most_units, padding, padded, cut, breaks_to};
+ghost use Rattle.chunk_buffers.specs.Buffer.{Filled, IsFirstBreak, NextEnds, most_units, padding, padded, cut, breaks_to};
 ghost use Rattle.line_starts.specs.Starts.{break_count, break_ends_at};
 ghost use Rattle.text_rules.specs.Lines.{line_start, line_feed, carriage_return, begins_with};
 ghost use Rattle.text_rules.specs.Breaks.{joins_pair, count_to, break_ends, ends_with};
@@ -150,6 +150,35 @@ impl Buffer {
         } else {
             whole
         }
+    }
+
+    /// Returns the offset, counted from `from`, after the first break of the units in `from..to`; None if they have no break.
+    pub(crate) fn first_break(&self, from: usize, to: usize) -> Option<u64>
+        requires ordered { from ≤ to }
+        requires inside { to ≤ length self.now.units }
+        ensures { IsFirstBreak (cut self.now.units from to) result }
+    {
+        match self.next_end(from, to) {
+            Some(end) => Some((end - from) as u64),
+            None if cuts_pair(self.units(), from, to) => Some((to - from) as u64),
+            None => None,
+        }
+    }
+
+    // Returns the offset after the first break that ends after `from`; None if that is greater than `to`.
+    fn next_end(&self, from: usize, to: usize) -> Option<usize>
+        requires inside { to ≤ length self.now.units }
+        ensures { NextEnds from to (break_ends 0 self.now.units) result }
+    {
+        let index = self.ends_to(from);
+        if index >= self.ends.len() {
+            return None;
+        }
+        let end = self.end(index) as usize;
+        if end > to {
+            return None;
+        }
+        Some(end)
     }
 
     /// Returns the offset, counted from `from`, after the `k`-th break of the units in `from..to`. Breaks count from 1.

@@ -2,7 +2,7 @@
 
 ghost use Rattle.std.specs.Prelude.{◌≡◌, ◌+◌, ◌-◌, ◌*◌, ◌<◌, ◌≤◌, ◌^◌, ◌∷◌, ◌++◌, [], length, take, drop, IfOk, OnOk, OnErr, IsTrue};
 ghost use Rattle.std.specs.List.{All};
-ghost use Rattle.chunk_buffers.specs.Buffer.{most_units, breaks_to};
+ghost use Rattle.chunk_buffers.specs.Buffer.{IsFirstBreak, most_units, breaks_to};
 ghost use Rattle.chunk_buffers.specs.Chunks.{units_at, LiesIn, Extends, EndsLast, EndsLastIfHere, IsReady, unit_count, most_appended, at_most_64_bits, part_of};
 ghost use Rattle.line_starts.specs.Starts.{break_count};
 ghost use Rattle.text_rules.specs.Lines.{line_start};
@@ -341,6 +341,15 @@ impl Chunks {
     {
         let (start, end) = (span.start as usize, (span.start + span.units) as usize);
         self.buffers[span.buffer as usize].breaks(start, end)
+    }
+
+    /// Returns the offset, counted from the span's start, after the first break of its units; None if they have no break.
+    pub fn first_break(&self, span: ChunkSpan) -> Option<u64>
+        requires { LiesIn self.now.buffers span }
+        ensures { IsFirstBreak (units_at self.now.buffers span) result }
+    {
+        let (start, end) = (span.start as usize, (span.start + span.units) as usize);
+        self.buffers[span.buffer as usize].first_break(start, end)
     }
 
     /// Returns the offset, counted from the span's start, after the `k`-th break of its units. Breaks count from 1.

@@ -4,7 +4,7 @@ ghost use Rattle.std.specs.Prelude.{◌≡◌, ◌∷◌, ◌+◌, ◌-◌, ◌<
 ghost use Rattle.chunk_buffers.specs.Chunks.{units_at, part_of, LiesIn};
 ghost use Rattle.line_starts.specs.Starts.{break_count};
 ghost use Rattle.piece_tree.specs.Pieces.{piece_of};
-ghost use Rattle.text_rules.specs.Lines.{Line, lines_of, line_at};
+ghost use Rattle.text_rules.specs.Lines.{Line, lines_of, line_at, line_start};
 ghost use Rattle.text_buffer.specs.Reading.{pieces_left, lines_left, lines_from, first_line, CanRead};
 ghost use Rattle.text_buffer.specs.Views.{IsView, units_in, buffers_in, GoesOnAfter};
 
@@ -107,19 +107,20 @@ impl View<'_> {
         ensures err { OnErr result (take (length out.old.items) out.new.items ≡ out.old.items) }
     {
         while let Some(span) = rest.next(&mut Steps::new()) {
-            if 0 < self.chunks.breaks(span) {
-                return self.push_end(span, rest, out);
+            if let Some(end) = self.chunks.first_break(span) {
+                return self.push_end(span, end, rest, out);
             }
             out.extend_from_slice(self.chunks.units(span))?;
         }
         Ok(())
     }
 
-    // Appends the part of the span before its first break and moves behind that break.
+    // Appends the part of the span before its first break, which ends at the offset `end`, and moves behind that break.
     #[tactic(auto, using(crate::proofs::LineCopies::first_inside))]
     fn push_end(
         &self,
         span: ChunkSpan,
+        end: u64,
         rest: &mut Rest<'_>,
         out: &mut Vec<u16>,
     ) -> Result<(), AllocError>
@@ -127,6 +128,7 @@ impl View<'_> {
             (piece_of (buffers_in self.now) span ∷ pieces_left (buffers_in self.now) rest.old) }
         requires taken { rest.old.first ≡ None }
         requires broken { 0 < break_count (units_at (buffers_in self.now) span) }
+        requires end { end ≡ line_start (units_at (buffers_in self.now) span) 2 }
         ensures can { OnOk result
             (CanRead (buffers_in self.now) (pieces_left (buffers_in self.now) rest.new)) }
         ensures content { OnOk result (out.new.items ≡ out.old.items
@@ -136,7 +138,6 @@ impl View<'_> {
         ensures err { OnErr result (out.new.items ≡ out.old.items) }
     {
         let units = self.chunks.units(span);
-        let end = self.chunks.nth_break(span, 1);
         out.extend_from_slice(without_break(&units[..end as usize]))?;
         rest.first = part_behind(self.chunks, span, end);
         Ok(())

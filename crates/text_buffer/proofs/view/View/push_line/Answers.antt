@@ -14,14 +14,14 @@ inside c =
     span_inside c.args.self.now.chunks.now.buffers (spans_left c.loop-span.rest) c.in-Some.span (spans_left c.next.new.self) c.in-Some.ensures.span
     c.loop-span.invariant.can
 
-pub breaks-requires : goal.breaks-requires
-breaks-requires c = inside c
+pub first_break-requires : goal.first_break-requires
+first_break-requires c = inside c
 
 pub units-requires : goal.units-requires
 units-requires c = inside (goal.at.units-requires c).In-Some
 
-pub returns-then-breaks-gt0-clause-content : goal.returns-then-breaks-gt0-clause-content
-returns-then-breaks-gt0-clause-content c =
+pub returns-in-Some-first_break-clause-content : goal.returns-in-Some-first_break-clause-content
+returns-in-Some-first_break-clause-content c =
     let b = c.args.self.now.chunks.now.buffers in
     let out = c.loop-span.out.items in
     on_ok_weaker c.push_end.result
@@ -39,5 +39,5 @@ loop-span-preserved c =
       can = reads_on b old c.in-Some.span new first c.loop-span.invariant.can;
       copied = more_copied (spelled b (pieces_left b c.args.rest.now)) (spelled b (pieces_at b old)) c.args.out.now.items out c.loop-span.invariant.copied
           (units_at b c.in-Some.span) (spelled b (pieces_at b new)) c.extend_from_slice.new.self.items (ap (λ ss. spelled b (pieces_at b ss)) first)
-          (c.in_ok-extend_from_slice.ensures.items ∙ ap (λ u. out ++ u) c.units.ensures) (omega (arith, c.if-breaks-gt0.false, c.breaks.ensures));
+          (c.in_ok-extend_from_slice.ensures.items ∙ ap (λ u. out ++ u) c.units.ensures) c.in_default-first_break.ensures;
     }
