@@ -19,6 +19,7 @@ CALLS = ["edit at a random place", "type at one place", "position of a random of
 FILES = {
     "lines": "all rows",
     "search": "searches and replaces",
+    "growth": "memory of repeated lines",
     "edited": "a text edited everywhere",
     "hidden": "comments and strings",
     "shapes": "what is hard for a tree",
