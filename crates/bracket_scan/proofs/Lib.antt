@@ -3,3 +3,4 @@ pub mod FirstUnits
 pub mod Texts
 pub mod Scanning
 pub mod Parts
+pub mod Passing

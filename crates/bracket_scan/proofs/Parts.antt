@@ -27,7 +27,7 @@ module _ (by : Scanner) where
       ∙ ap (λ n. scanned_from by n 0 within (drop passed units)) (omega arith)
 
   -- the rest after the front is the rest after its first `len` units
-  front_rest : (at : ℕ) (within : Within) (u : ℕ) (units : List ℕ) (f : Front) (len : ℕ)
+  pub front_rest : (at : ℕ) (within : Within) (u : ℕ) (units : List ℕ) (f : Front) (len : ℕ)
       → front by at within (u ∷ units) ≡ f → suc f.after_first ≡ len
       → scanned_from by at 0 within (u ∷ units) ≡ after f.token (scanned_from by (at + len) 0 f.behind (drop len (u ∷ units)))
   front_rest at within u units f len stands size =

@@ -113,7 +113,9 @@ impl Chunks {
         ensures err { OnErr result (self.new ≡ self.old) }
     {
         if units > self.room() || self.buffers.is_empty() {
-            let room = units.max(self.usual_room());
+            // A change may append less than it asks room for. A quarter more keeps the next one from beginning a buffer of its own.
+            let more = units.saturating_add(units / 4).min(MOST_UNITS);
+            let room = units.max(more).max(self.usual_room());
             return self.begin_buffer(room, breaks, Vec::new(self.alloc));
         }
         self.reserve_breaks(breaks)

@@ -2,6 +2,7 @@
 
 ghost use Rattle.std.specs.Prelude.{◌≡◌, Some};
 ghost use Rattle.hiding_rules.specs.Hidden.{one_unit, marked, quoted, hidden_in_string};
+ghost use Rattle.hiding_marks.specs.Reacts.{may_start};
 
 use crate::rules::is_one_of;
 use hiding_rules::{BACKSLASH, LineState, Stretch, Within};
@@ -25,6 +26,16 @@ pub(crate) fn marked(text: &Units, behind: Within, units: &[u16]) -> Option<Stre
         units: text.len() as u64,
         behind,
     })
+}
+
+/// Returns whether the text may begin with this unit.
+pub(crate) fn may_start(text: &Units, unit: u16) -> bool
+    ensures { result ≡ may_start (Some text.now) unit }
+{
+    match text.as_slice() {
+        [] => true,
+        [first, ..] => *first == unit,
+    }
 }
 
 /// Returns the stretch of a quote, if the units begin with one.

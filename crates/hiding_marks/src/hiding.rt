@@ -5,11 +5,12 @@ ghost use Rattle.bracket_rules.specs.declared.TheConstants.{MOST_BRACKET_UNITS};
 ghost use Rattle.hiding_rules.specs.Marks.{marks, no_marks, has_block, is_none, are_marks};
 ghost use Rattle.hiding_rules.specs.declared.Within.TheVariants.{Comment};
 ghost use Rattle.hiding_rules.specs.Hidden.{code, block, block_opening, block_closing, marked, hidden_in_code, hidden_in_block, hidden};
+ghost use Rattle.hiding_marks.specs.Reacts.{may_start, may_react};
 
-use crate::hidden::{hidden_in_string, marked, one_unit, quoted};
-use crate::rules::{are_quotes, has_block_texts, has_line_text};
+use crate::hidden::{hidden_in_string, marked, may_start, one_unit, quoted};
+use crate::rules::{are_quotes, has_block_texts, has_line_text, is_one_of};
 use arrayvec::ArrayVec;
-use hiding_rules::{LineState, Stretch, Within};
+use hiding_rules::{BACKSLASH, LineState, Stretch, Within};
 use std::marker::Model;
 use thiserror::Error;
 use unit_text::Units;
@@ -105,6 +106,53 @@ impl Hiding {
             Within::State(LineState::Block) => Some(self.hidden_in_block(units)),
             Within::Comment => Some(one_unit(Within::Comment)),
             Within::String(quote) => Some(hidden_in_string(quote, units)),
+        }
+    }
+
+    /// Returns whether something hidden may begin or end at this unit. If not, a scan may pass it: the context goes on.
+    pub fn may_react(&self, within: Within, unit: u16) -> bool
+        ensures { result ≡ may_react self.now within unit }
+    {
+        match within {
+            Within::State(LineState::Code) => self.may_hide(unit),
+            Within::State(LineState::Block) => self.may_end_block(unit),
+            Within::Comment => false,
+            Within::String(quote) => unit == BACKSLASH || unit == quote,
+        }
+    }
+
+    fn may_hide(&self, unit: u16) -> bool
+        ensures { result ≡ may_react self.now code unit }
+    {
+        self.may_begin_line(unit)
+            || self.may_begin_block(unit)
+            || is_one_of(self.quotes.as_slice(), unit)
+    }
+
+    fn may_begin_line(&self, unit: u16) -> bool
+        ensures { result ≡ may_start self.now.line unit }
+    {
+        match &self.line {
+            Some(text) => may_start(text, unit),
+            None => false,
+        }
+    }
+
+    fn may_begin_block(&self, unit: u16) -> bool
+        ensures { result ≡ may_start (block_opening self.now) unit }
+    {
+        match &self.block {
+            Some(texts) => may_start(&texts.0, unit),
+            None => false,
+        }
+    }
+
+    fn may_end_block(&self, unit: u16) -> bool
+        ensures { result ≡ may_start (block_closing self.now) unit }
+    {
+        match &self.block {
+            Some(texts) => may_start(&texts.1, unit),
+            None => false,
         }
     }
 

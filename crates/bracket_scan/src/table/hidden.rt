@@ -5,7 +5,8 @@ ghost use Rattle.std.specs.Option.{option_to_list};
 ghost use Rattle.bracket_rules.specs.Table.{is_table, longest, units_after_first};
 ghost use Rattle.hiding_rules.specs.Hidden.{scanner, code, ending, hidden_scan};
 ghost use Rattle.bracket_scan.specs.Starts.{IsWithin};
-ghost use Rattle.bracket_scan.specs.Parts.{IsPart};
+ghost use Rattle.std.specs.List.{position_or_len};
+ghost use Rattle.bracket_scan.specs.Parts.{IsPart, may_show, may_matter};
 
 use super::BracketTable;
 use bracket_rules::Token;
@@ -111,11 +112,21 @@ impl BracketTable {
         requires { 0 < length units.now }
         ensures { IsPart (scanner self.now hiding.now) at within units.now result }
     {
+        // What it holds is a table.
+        let _texts = &self.texts;
         if let Within::Comment = within {
             // A line comment takes up the rest of its line.
             return Part {
                 token: None,
                 len: units.len(),
+                behind: within,
+            };
+        }
+        let passed = self.passing(hiding, within, units);
+        if 0 < passed {
+            return Part {
+                token: None,
+                len: passed,
                 behind: within,
             };
         }
@@ -126,6 +137,37 @@ impl BracketTable {
                 behind: stretch.behind,
             },
             None => self.shown(at, units),
+        }
+    }
+
+    // Returns the number of units before the first one that may matter.
+    fn passing(&self, hiding: &Hiding, within: Within, units: &[u16]) -> usize
+        ensures { let matters = may_matter (scanner self.now hiding.now) within in
+            result ≡ position_or_len matters units.now }
+    {
+        let next = units
+            .iter()
+            .position(|unit| self.may_matter(hiding, within, *unit));
+        match next {
+            Some(passed) => passed,
+            None => units.len(),
+        }
+    }
+
+    // Returns whether a bracket or a mark may begin with this unit, or the context may end.
+    fn may_matter(&self, hiding: &Hiding, within: Within, unit: u16) -> bool
+        ensures { result ≡ may_matter (scanner self.now hiding.now) within unit }
+    {
+        self.may_show(within, unit) || hiding.may_react(within, unit)
+    }
+
+    // Returns whether a text of the table may begin with this unit.
+    fn may_show(&self, within: Within, unit: u16) -> bool
+        ensures { result ≡ may_show self.now within unit }
+    {
+        match within {
+            Within::State(LineState::Code) => self.may_begin(unit),
+            Within::State(LineState::Block) | Within::Comment | Within::String(_) => false,
         }
     }
 

@@ -29,7 +29,8 @@ impl Model {
         self.page.text().chunks().len()
     }
 
-    /// Returns whether the buffers held too much before the last change, and could not be reduced: memory was short, or a snapshot was open.
+    /// Returns whether the buffers held too much before the last change, and could not be reduced: memory was short, a snapshot was open, or
+    /// the text with that change might have had more than 2^31 - 2^16 units.
     pub fn is_overfull(&self) -> bool
         ensures { result ≡ self.now.overfull }
     {
